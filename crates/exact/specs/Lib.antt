@@ -1,0 +1,4 @@
+pub mod Optional
+pub mod Fraction
+pub mod Interval
+pub mod Floor

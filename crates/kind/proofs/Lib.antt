@@ -1,0 +1,4 @@
+pub mod Orders
+pub mod GridRules
+pub mod GridOps
+pub mod Plain

@@ -1,0 +1,4 @@
+pub mod Form
+pub mod Cut
+pub mod Grid
+pub mod Marks
