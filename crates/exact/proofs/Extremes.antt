@@ -30,6 +30,12 @@ min-right x y = min-ind x y (λ m. m ≤F y) (λ h. h) (λ h. ≤F-refl y)
 pub max-is-left : {x y : Frac} → y ≤F x → maxF x y ≈ x
 max-is-left {x} {y} h = max-ind x y (λ m. m ≈ x) (λ k. ≈-refl x) (λ k. ≤F-antisym h k)
 
+pub min-is-left : {x y : Frac} → x ≤F y → minF x y ≈ x
+min-is-left {x} {y} h = min-ind x y (λ m. m ≈ x) (λ k. ≈-refl x) (λ k. ≤F-antisym k h)
+
+pub min-is-right : {x y : Frac} → y ≤F x → minF x y ≈ y
+min-is-right {x} {y} h = min-ind x y (λ m. m ≈ y) (λ k. ≤F-antisym k h) (λ k. ≈-refl y)
+
 pub max-is-right : {x y : Frac} → x ≤F y → maxF x y ≈ y
 max-is-right {x} {y} h = max-ind x y (λ m. m ≈ y) (λ k. ≤F-antisym h k) (λ k. ≈-refl y)
 

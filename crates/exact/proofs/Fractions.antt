@@ -7,32 +7,32 @@ use Rattle.exact.proofs.Ring.{CRing, Expr, var, num, _⊕_, _⊖_, _⊗_, ⊝_
 use Rattle.exact.proofs.Integers.{ring, ℤ-ring, cancel}
 
 -- a fraction of expressions, to write a law's cross products by
-pub record FE : Type 0 where
-  pub t : Expr
-  pub b : Expr
+record FE : Type 0 where
+  t : Expr
+  b : Expr
 
-abbrev pub addE : FE → FE → FE
+abbrev addE : FE → FE → FE
 addE x y = record { t = x .t ⊗ y .b ⊕ y .t ⊗ x .b; b = x .b ⊗ y .b }
 
-abbrev pub mulE : FE → FE → FE
+abbrev mulE : FE → FE → FE
 mulE x y = record { t = x .t ⊗ y .t; b = x .b ⊗ y .b }
 
-abbrev pub negE : FE → FE
+abbrev negE : FE → FE
 negE x = record { t = ⊝ (x .t); b = x .b }
 
-abbrev pub A : FE
+abbrev A : FE
 A = record { t = x0; b = x1 }
-abbrev pub B : FE
+abbrev B : FE
 B = record { t = x2; b = x3 }
-abbrev pub D : FE
+abbrev D : FE
 D = record { t = x4; b = x5 }
-abbrev pub K : ℤ → FE
+abbrev K : ℤ → FE
 K k = record { t = num k; b = num (pos 1) }
 
-abbrev pub env : Frac → Frac → Frac → List ℤ
+abbrev env : Frac → Frac → Frac → List ℤ
 env a b c = a .top ∷ pos (a .bot) ∷ b .top ∷ pos (b .bot) ∷ c .top ∷ pos (c .bot) ∷ []
 
-abbrev pub L : FE → FE → Expr
+abbrev L : FE → FE → Expr
 L p q = p .t ⊗ q .b
 
 pub ≈-trans : {a b c : Frac} → a ≈ b → b ≈ c → a ≈ c
@@ -63,7 +63,7 @@ unfolding _*F_
     ρ : List ℤ
     ρ = a .top ∷ pos (a .bot) ∷ b .top ∷ pos (b .bot) ∷ c .top ∷ pos (c .bot) ∷ d .top ∷ pos (d .bot) ∷ []
 
-pub law : (a b c : Frac) (p q : FE) → norm (L p q) ≡ norm (L q p) → ev ℤ-ring (env a b c) (L p q) ≡ ev ℤ-ring (env a b c) (L q p)
+law : (a b c : Frac) (p q : FE) → norm (L p q) ≡ norm (L q p) → ev ℤ-ring (env a b c) (L p q) ≡ ev ℤ-ring (env a b c) (L q p)
 law a b c p q e = ring (env a b c) (L p q) (L q p) e
 
 pub F·add-assoc : (a b c : Frac) → (a +F b +F c) ≈ (a +F (b +F c))

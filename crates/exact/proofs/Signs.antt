@@ -1,18 +1,18 @@
 -- Signs of fractions, and the corners of a product.
-use mathlib.Core.Path.{_≡_, refl}
-use mathlib.Core.List.{List, [], _∷_}
+use mathlib.Core.List.{[], _∷_}
 use mathlib.Core.Logic.{_⊎_, inl, inr}
-use Prim.Native.Nat.{ℕ, zero, suc, _<_, _*_}
+use mathlib.Core.Path.{_≡_, refl}
+use Prim.Native.Nat.{_<_, suc, zero}
 use native.Mathlib.Nat.{mul-pos}
 use native.Mathlib.Omega.{arith}
-use lib.IntN.{ℤ, pos, negsuc, _*ℤ_, negℤ}
-use lib.Signed.{_≤ℤ_, _<ℤ_}
 use borrow.Author.Differences.{ints}
-use Rattle.exact.specs.Fraction.{Frac, whole, _+F_, _*F_, negF, _-F_, _≈_, _≤F_, _<F_, Nonzero}
-use Rattle.exact.proofs.Ring.{num, _⊕_, _⊖_, _⊗_, ⊝_, combine, x0, x1, x2, x3}
+use lib.IntN.{_*ℤ_, negsuc, negℤ, pos, ℤ}
+use lib.Signed.{_<ℤ_, _≤ℤ_}
+use Rattle.exact.proofs.Fractions.{ringF}
 use Rattle.exact.proofs.Integers.{≤ℤ-cancel}
-use Rattle.exact.proofs.Fractions.{F-ring, ringF}
-use Rattle.exact.proofs.Order.{NN, le→nn, nn→le, nn-add, nn-mul, nn-≈, le-by, ≤F-antisym, lt-or-le}
+use Rattle.exact.proofs.Order.{NN, le-by, le→nn, lt-or-le, nn-add, nn-mul, nn-≈, ≤F-antisym, ≤F-≈}
+use Rattle.exact.proofs.Ring.{_⊕_, _⊖_, _⊗_, num, x0, x1, x2, x3, ⊝_}
+use Rattle.exact.specs.Fraction.{Frac, Nonzero, _*F_, _+F_, _-F_, _<F_, _≈_, _≤F_, negF, whole}
 
 abbrev pub 0F : Frac
 0F = whole (pos 0)
@@ -111,3 +111,13 @@ corner-low a b p q h k = le-by (a ∷ b ∷ p ∷ q ∷ []) (x2 ⊗ x3) (x0 ⊗ 
 
 pub corner-high : (a b p q : Frac) → NN (a *F (q -F b)) → NN (q *F (p -F a)) → (a *F b) ≤F (p *F q)
 corner-high a b p q h k = le-by (a ∷ b ∷ p ∷ q ∷ []) (x0 ⊗ x1) (x2 ⊗ x3) (x0 ⊗ (x3 ⊖ x1) ⊕ x3 ⊗ (x2 ⊖ x0)) refl (nn-add h k)
+
+-- the same by the other way round: along b first
+turn : (x y : Frac) → (x *F y) ≈ (y *F x)
+turn x y = ringF (x ∷ y ∷ []) (x0 ⊗ x1) (x1 ⊗ x0) refl
+
+pub corner-low′ : (a b p q : Frac) → NN (b *F (a -F p)) → NN (p *F (b -F q)) → (p *F q) ≤F (a *F b)
+corner-low′ a b p q h k = ≤F-≈ (turn q p) (turn b a) (corner-low b a q p h k)
+
+pub corner-high′ : (a b p q : Frac) → NN (b *F (p -F a)) → NN (p *F (q -F b)) → (a *F b) ≤F (p *F q)
+corner-high′ a b p q h k = ≤F-≈ (turn b a) (turn q p) (corner-high b a q p h k)

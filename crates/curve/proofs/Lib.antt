@@ -1,0 +1,3 @@
+pub mod Lifts
+pub mod SquareBends
+pub mod MagnitudeBends

@@ -1,0 +1,1 @@
+// The truth of slope records: mathematics only.
