@@ -1,11 +1,11 @@
 -- The number of each cause of refusal.
 use Prim.Native.Nat.{ℕ}
 use Rattle.fault.specs.declared.fault.Cause.{Cause}
-use Rattle.fault.specs.declared.fault.Cause.the-variants.{Channels, Channel, Number, Order, Centre, Lines, Full, Operand, Divisor, Absent, NoLine, NotEmpty, Early, Form, Operation, Count, Left, Room}
+use Rattle.fault.specs.declared.fault.Cause.the-variants.{Channels, NoChannel, Number, Order, Centre, Lines, Full, Operand, Divisor, Absent, NoLine, NotEmpty, Early, Form, Operation, Count, Left, Room}
 
 abbrev pub number : Cause → ℕ
 number Channels = 1
-number Channel = 2
+number NoChannel = 2
 number Number = 3
 number Order = 4
 number Centre = 5

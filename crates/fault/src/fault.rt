@@ -5,7 +5,7 @@ pub enum Cause {
     // not 1 to 8 channels, or lists of unequal length
     Channels,
     // no such channel
-    Channel,
+    NoChannel,
     // a number beyond the counts
     Number,
     // a lower end above its upper end

@@ -8,7 +8,7 @@ impl Cause {
     {
         match self {
             Cause::Channels => 1,
-            Cause::Channel => 2,
+            Cause::NoChannel => 2,
             Cause::Number => 3,
             Cause::Order => 4,
             Cause::Centre => 5,

@@ -1,0 +1,4 @@
+pub mod Overlay
+pub mod Groups
+pub mod LineBytes
+pub mod LinesBytes

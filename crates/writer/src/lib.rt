@@ -1,0 +1,5 @@
+// Writing formula bytes.
+mod lines;
+mod numbers;
+
+pub use lines::write;
