@@ -1,0 +1,52 @@
+-- The exits of `?`, and the elements of a list by their place.
+use mathlib.Core.List.{List, [], _∷_}
+use mathlib.Core.Path.{_∙_, _≡_, ap, refl, subst, sym}
+use Prim.Native.Nat.{_<_, _≤_, suc, zero, ℕ}
+use native.Mathlib.Omega.{arith}
+use lib.ListN.{getD, length, take}
+use Rattle.std.proofs.shelf.Results.{err-from-errBy}
+use Rattle.std.specs.Results.{Cases, ErrBy}
+use Rattle.std.specs.declared.option.Option.{Option}
+use Rattle.std.specs.declared.option.Option.the-variants.{None, Some}
+use Rattle.std.specs.declared.result.Result.{Result}
+use Rattle.std.specs.declared.result.Result.the-variants.{Err, Ok}
+use Rattle.std.specs.shelf.Maps.{nth}
+use Rattle.exact.specs.Optional.{_>>=_}
+use Rattle.fault.specs.declared.fault.Fault.{Fault}
+use Rattle.slope.specs.Rules.{given}
+use Rattle.rule.specs.Rule.{after}
+
+-- what a refused step returns
+pub exit : {X Y : Type 0} (r : Result Y Fault) (e : Fault) (F : Result X Fault) (f : X → Result Y Fault) → ErrBy r (λ y. y ≡ e) → Err e ≡ F → r ≡ after F f
+exit r e F f b q = let p = err-from-errBy r b in p .1 ∙ ap Err (p .2) ∙ ap (λ o. after o f) q
+
+module _ {X Y : Type 0} (place : ℕ) (f : X → Option Y) where
+  -- a step that is there goes on
+  pub given-on : (o : Option X) (x : X) → given place o ≡ Ok x → given place (o >>= f) ≡ given place (f x)
+  given-on o x q = on o (subst (λ r. Cases r (λ z. z ≡ x) (λ _. ⊥)) (sym q) refl)
+    where
+      on : (o : Option X) → Cases (given place o) (λ z. z ≡ x) (λ _. ⊥) → given place (o >>= f) ≡ given place (f x)
+      on None h = absurd h
+      on (Some y) h = ap (λ z. given place (f z)) h
+
+  -- a step that is absent ends
+  pub given-out : (o : Option X) (e : Fault) → given place o ≡ Err e → given place (o >>= f) ≡ Err e
+  given-out o e q = out o (subst (λ r. Cases r (λ _. ⊥) (λ y. y ≡ e)) (sym q) refl)
+    where
+      out : (o : Option X) → Cases (given place o) (λ _. ⊥) (λ y. y ≡ e) → given place (o >>= f) ≡ Err e
+      out None h = ap Err h
+      out (Some y) h = absurd h
+
+-- the elements of the first of a list
+module _ {X : Type 0} where
+  pub nth-of-first : (n : ℕ) (xs : List X) (i : ℕ) (d : X) → i < n → n ≤ length xs → nth (take n xs) i ≡ Some (getD xs i d)
+  nth-of-first zero xs i d l h = absurd (omega arith)
+  nth-of-first (suc n) [] i d l h = absurd (omega arith)
+  nth-of-first (suc n) (x ∷ xs) zero d l h = refl
+  nth-of-first (suc n) (x ∷ xs) (suc i) d l h = nth-of-first n xs i d (omega arith) (omega arith)
+
+  pub nth-beyond-first : (n : ℕ) (xs : List X) (i : ℕ) → n ≤ i → nth (take n xs) i ≡ None
+  nth-beyond-first zero xs i l = refl
+  nth-beyond-first (suc n) [] i l = refl
+  nth-beyond-first (suc n) (x ∷ xs) zero l = absurd (omega arith)
+  nth-beyond-first (suc n) (x ∷ xs) (suc i) l = nth-beyond-first n xs i (omega arith)
