@@ -1,5 +1,4 @@
 -- Reading formula bytes: numbers, lines, the count of lines.
--- a refusal gets its place
 use mathlib.Core.Bool.{Bool, cond, false, true}
 use mathlib.Core.List.{List}
 use mathlib.Core.Path.{_≡_}
@@ -8,6 +7,7 @@ use lib.Dec.{eqb, ltb}
 use lib.ListN.{drop, length}
 use Rattle.std.specs.declared.result.Result.{Result}
 use Rattle.std.specs.declared.result.Result.the-variants.{Err, Ok}
+use Rattle.fault.specs.Refusals.{after, refused}
 use Rattle.fault.specs.declared.fault.Cause.{Cause}
 use Rattle.fault.specs.declared.fault.Cause.the-variants.{Count, Left, Operation}
 use Rattle.fault.specs.declared.fault.Fault.{Fault}
@@ -16,13 +16,10 @@ use Rattle.leb.specs.declared.place.Place.{Place}
 use Rattle.line.specs.Operations.{arity, line-of}
 use Rattle.line.specs.declared.line.Line.{Line}
 
+-- a refusal gets its place
 abbrev pub placed : {X : Type 0} → ℕ → Result X Cause → Result X Fault
 placed place (Ok x) = Ok x
-placed place (Err c) = Err (record { cause = c; place = place })
-
-abbrev pub after : {X Y : Type 0} → Result X Fault → (X → Result Y Fault) → Result Y Fault
-after (Ok x) f = f x
-after (Err e) f = Err e
+placed place (Err c) = refused c place
 
 -- the number at a place and where it ends; a refusal has the first byte of its line as place
 abbrev pub number-at : List ℕ → ℕ → ℕ → Result (ℕ × ℕ) Fault
@@ -37,7 +34,7 @@ operand-at false bytes at line = Ok (0, at)
 abbrev pub line-at : List ℕ → ℕ → Result (Line × ℕ) Fault
 line-at bytes at =
   after (number-at bytes at at) (λ op.
-  cond (ltb 10 (op .0)) (Err (record { cause = Operation; place = at }))
+  cond (ltb 10 (op .0)) (refused Operation at)
   (after (number-at bytes (op .1) at) (λ a.
   after (operand-at (ltb 1 (arity (op .0))) bytes (a .1) at) (λ b.
   after (operand-at (ltb 2 (arity (op .0))) bytes (b .1) at) (λ c.
@@ -45,11 +42,11 @@ line-at bytes at =
 
 -- the number of lines, 1 to 64, and where the first line begins
 abbrev pub count-at : List ℕ → Result (ℕ × Place) Fault
-count-at bytes = after (number-at bytes 0 0) (λ n. cond (ltb 64 (n .0)) (Err (record { cause = Count; place = 0 })) (cond (eqb (n .0) 0) (Err (record { cause = Count; place = 0 })) (Ok (n .0, record { at = n .1 }))))
+count-at bytes = after (number-at bytes 0 0) (λ n. cond (ltb 64 (n .0)) (refused Count 0) (cond (eqb (n .0) 0) (refused Count 0) (Ok (n .0, record { at = n .1 }))))
 
 -- nothing is left over behind the last line
 abbrev pub end-at : List ℕ → ℕ → Result (Unit {0}) Fault
-end-at bytes at = cond (ltb at (length bytes)) (Err (record { cause = Left; place = at })) (Ok tt)
+end-at bytes at = cond (ltb at (length bytes)) (refused Left at) (Ok tt)
 
 -- what a reader answers and where it then stands: behind what was read, and where it was on a refusal
 abbrev pub Stands : {X : Type 0} → Result (X × ℕ) Fault → Result X Fault → ℕ → ℕ → Type 0

@@ -12,9 +12,9 @@ use Rattle.std.specs.declared.result.Result.{Result}
 use Rattle.std.specs.declared.result.Result.the-variants.{Err, Ok}
 use Rattle.std.specs.shelf.Maps.{nth}
 use Rattle.exact.specs.Optional.{_>>=_}
+use Rattle.fault.specs.Refusals.{after}
 use Rattle.fault.specs.declared.fault.Fault.{Fault}
 use Rattle.slope.specs.Rules.{given}
-use Rattle.rule.specs.Rule.{after}
 
 -- what a refused step returns
 pub exit : {X Y : Type 0} (r : Result Y Fault) (e : Fault) (F : Result X Fault) (f : X → Result Y Fault) → ErrBy r (λ y. y ≡ e) → Err e ≡ F → r ≡ after F f

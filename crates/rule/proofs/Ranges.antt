@@ -12,8 +12,10 @@ use Rattle.std.specs.declared.option.Option.the-variants.{None, Some}
 use Rattle.std.specs.declared.result.Result.{Result}
 use Rattle.std.specs.declared.result.Result.the-variants.{Err, Ok}
 use Rattle.std.specs.shelf.Maps.{nth}
+use Rattle.boxes.specs.Boxes.{Box}
 use Rattle.exact.proofs.Ring.{x0}
 use Rattle.exact.specs.Optional.{_>>=_}
+use Rattle.fault.specs.Refusals.{after, found, refused}
 use Rattle.fault.specs.declared.fault.Cause.the-variants.{NoChannel}
 use Rattle.fault.specs.declared.fault.Fault.{Fault}
 use Rattle.kind.specs.Model.{Model}
@@ -22,8 +24,7 @@ use Rattle.slope.specs.declared.record.Record.{Record}
 use Rattle.span.specs.Spans.{of-counts}
 use Rattle.span.specs.declared.span.Span.{Span}
 use Rattle.rule.proofs.Exits.{given-on, given-out}
-use Rattle.rule.specs.Boxes.{Box}
-use Rattle.rule.specs.Rule.{after, channel, found, refused, still-range, swept-range}
+use Rattle.rule.specs.Rule.{channel, still-range, swept-range}
 
 module _ {K : Type 0} (m : Model K) where
   -- the centre is absent

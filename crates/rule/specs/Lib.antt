@@ -1,3 +1,2 @@
-pub mod Boxes
 pub mod Rule
 pub mod Lent

@@ -1,17 +1,17 @@
 -- The record that the rules give a line over a box, by the records of the lines before it.
-use mathlib.Core.Bool.{Bool, cond, false, true}
+use mathlib.Core.Bool.{cond}
 use mathlib.Core.List.{List}
 use Prim.Native.Nat.{ℕ}
 use lib.Dec.{eqb}
-use lib.IntN.{pos, ℤ}
+use lib.IntN.{ℤ}
 use lib.ListN.{length}
-use Rattle.std.specs.declared.option.Option.{Option}
-use Rattle.std.specs.declared.option.Option.the-variants.{None, Some}
+use Rattle.std.specs.declared.option.Option.the-variants.{Some}
 use Rattle.std.specs.declared.result.Result.{Result}
-use Rattle.std.specs.declared.result.Result.the-variants.{Err, Ok}
+use Rattle.std.specs.declared.result.Result.the-variants.{Ok}
 use Rattle.std.specs.shelf.Maps.{nth}
+use Rattle.boxes.specs.Boxes.{Box, is-count}
 use Rattle.exact.specs.Optional.{_>>=_}
-use Rattle.fault.specs.declared.fault.Cause.{Cause}
+use Rattle.fault.specs.Refusals.{after, found, refused}
 use Rattle.fault.specs.declared.fault.Cause.the-variants.{NoChannel, Number, Operand}
 use Rattle.fault.specs.declared.fault.Fault.{Fault}
 use Rattle.kind.specs.Model.{Model}
@@ -20,21 +20,8 @@ use Rattle.line.specs.declared.line.Line.the-variants.{Branch, Channel, Constan
 use Rattle.slope.specs.Curves.{lift, magnitude-shape, square-shape}
 use Rattle.slope.specs.Rules.{given}
 use Rattle.slope.specs.declared.record.Record.{Record}
-use Rattle.rule.specs.Boxes.{Box, is-count}
 use Rattle.slope.specs.Rules as rules
 use Rattle.span.specs.Spans as spans
-
--- refused at a place
-abbrev pub refused : {X : Type 0} → Cause → ℕ → Result X Fault
-refused c place = Err (record { cause = c; place = place })
-
-abbrev pub found : {X : Type 0} → Cause → ℕ → Option X → Result X Fault
-found c place None = refused c place
-found c place (Some x) = Ok x
-
-abbrev pub after : {X Y : Type 0} → Result X Fault → (X → Result Y Fault) → Result Y Fault
-after (Ok x) f = f x
-after (Err e) f = Err e
 
 -- ---- operands are earlier lines, asked for from left to right
 module _ {R : Type 0} where

@@ -1,9 +1,9 @@
 // Making the record of a line.
 ghost use mathlib.Core.Path.{_≡_};
-ghost use Rattle.rule.specs.Boxes.{box-of};
+ghost use Rattle.boxes.specs.Stored.{box-of};
 ghost use Rattle.rule.specs.Lent.{lent, lent-two, lent-three};
 ghost use Rattle.rule.specs.Rule as rules;
-use crate::channels::ChannelBox;
+use boxes::ChannelBox;
 use curve::Magnitude;
 use curve::MagnitudeCurve;
 use curve::Square;

@@ -1,25 +1,23 @@
 -- The rule of each operation. A step that is absent leaves a slope rule with no slopes; the span U that is absent leaves no
 -- record.
-use mathlib.Core.Bool.{Bool, cond}
+use mathlib.Core.Bool.{cond}
 use Prim.Native.Nat.{ℕ}
 use Rattle.std.specs.declared.option.Option.{Option}
-use Rattle.std.specs.declared.option.Option.the-variants.{Some, None}
+use Rattle.std.specs.declared.option.Option.the-variants.{None, Some}
 use Rattle.std.specs.declared.result.Result.{Result}
-use Rattle.std.specs.declared.result.Result.the-variants.{Ok, Err}
 use Rattle.exact.specs.Optional.{_>>=_}
+use Rattle.fault.specs.Refusals.{found, refused}
+use Rattle.fault.specs.declared.fault.Cause.the-variants.{Absent, Divisor}
+use Rattle.fault.specs.declared.fault.Fault.{Fault}
 use Rattle.kind.specs.Model.{Model}
 use Rattle.span.specs.declared.span.Span.{Span}
-use Rattle.span.specs.Spans as spans
-use Rattle.fault.specs.declared.fault.Cause.{Cause}
-use Rattle.fault.specs.declared.fault.Cause.the-variants.{Divisor, Absent}
-use Rattle.fault.specs.declared.fault.Fault.{Fault}
-use Rattle.slope.specs.declared.record.Slopes.{Slopes}
 use Rattle.slope.specs.declared.record.Record.{Record}
+use Rattle.slope.specs.declared.record.Slopes.{Slopes}
+use Rattle.span.specs.Spans as spans
 
 -- what is absent is refused at a place
 abbrev pub given : {X : Type 0} → ℕ → Option X → Result X Fault
-given place None = Err (record { cause = Absent; place = place })
-given place (Some x) = Ok x
+given = found Absent
 
 module _ {K : Type 0} where
   abbrev pub rec : Span K → Span K → Option (Slopes K) → Record K
@@ -78,7 +76,7 @@ module _ {K : Type 0} (m : Model K) where
 
   -- a divisor that holds 0 is refused first
   abbrev pub divided : ℕ → Record K → Record K → Result (Record K) Fault
-  divided place p q = cond (spans.holds-zero m (q .u)) (Err (record { cause = Divisor; place = place })) (given place (quotient p q))
+  divided place p q = cond (spans.holds-zero m (q .u)) (refused Divisor place) (given place (quotient p q))
 
   -- ---- greater and lesser: decided, the whole record of one; else end by end, with hulls of the slopes
   abbrev pub hulls : Record K → Record K → Option (Slopes K)

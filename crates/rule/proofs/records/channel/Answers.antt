@@ -3,9 +3,9 @@ use lib.IntN.{pos}
 use lib.ListN.{getD}
 use mir.Syntax.{w32}
 use mir.Val.{ofZ, toZ}
+use Rattle.boxes.specs.Stored.{box-of}
 use Rattle.rule.proofs.Exits.{nth-beyond-first, nth-of-first}
 use Rattle.rule.proofs.Ranges.{another, no-channel, the-swept}
-use Rattle.rule.specs.Boxes.{box-of}
 use Rattle.rule.proofs.records.channel.Needs as need
 
 pub returns-then-c-b : need.returns-then-c-b

@@ -1,8 +1,8 @@
 use mathlib.Core.Path.{ap, refl, sym}
 use lib.ListN.{length}
 use Rattle.std.proofs.shelf.Maps.{nth-past, nth-read}
+use Rattle.fault.specs.Refusals.{found}
 use Rattle.fault.specs.declared.fault.Cause.the-variants.{Operand}
-use Rattle.rule.specs.Rule.{found}
 use Rattle.rule.proofs.records.operand.Needs as need
 
 pub returns-then-l-earlier : need.returns-then-l-earlier

@@ -1,6 +1,6 @@
 use mathlib.Core.Path.{_∙_, ap, sym}
+use Rattle.boxes.specs.Stored.{box-of}
 use Rattle.rule.proofs.Exits.{exit}
-use Rattle.rule.specs.Boxes.{box-of}
 use Rattle.rule.specs.Rule.{rule}
 use Rattle.rule.proofs.records.record_of.Needs as need
 

@@ -1,0 +1,5 @@
+// Boxes of channel ranges.
+mod channels;
+mod opening;
+
+pub use channels::ChannelBox;
