@@ -1,16 +1,12 @@
--- The exits of `?`, and the elements of a list by their place.
-use mathlib.Core.List.{List, [], _∷_}
+-- The exits of `?`.
 use mathlib.Core.Path.{_∙_, _≡_, ap, refl, subst, sym}
-use Prim.Native.Nat.{_<_, _≤_, suc, zero, ℕ}
-use native.Mathlib.Omega.{arith}
-use lib.ListN.{getD, length, take}
+use Prim.Native.Nat.{ℕ}
 use Rattle.std.proofs.shelf.Results.{err-from-errBy}
 use Rattle.std.specs.Results.{Cases, ErrBy}
 use Rattle.std.specs.declared.option.Option.{Option}
 use Rattle.std.specs.declared.option.Option.the-variants.{None, Some}
 use Rattle.std.specs.declared.result.Result.{Result}
 use Rattle.std.specs.declared.result.Result.the-variants.{Err, Ok}
-use Rattle.std.specs.shelf.Maps.{nth}
 use Rattle.exact.specs.Optional.{_>>=_}
 use Rattle.fault.specs.Refusals.{after}
 use Rattle.fault.specs.declared.fault.Fault.{Fault}
@@ -36,17 +32,3 @@ module _ {X Y : Type 0} (place : ℕ) (f : X → Option Y) where
       out : (o : Option X) → Cases (given place o) (λ _. ⊥) (λ y. y ≡ e) → given place (o >>= f) ≡ Err e
       out None h = ap Err h
       out (Some y) h = absurd h
-
--- the elements of the first of a list
-module _ {X : Type 0} where
-  pub nth-of-first : (n : ℕ) (xs : List X) (i : ℕ) (d : X) → i < n → n ≤ length xs → nth (take n xs) i ≡ Some (getD xs i d)
-  nth-of-first zero xs i d l h = absurd (omega arith)
-  nth-of-first (suc n) [] i d l h = absurd (omega arith)
-  nth-of-first (suc n) (x ∷ xs) zero d l h = refl
-  nth-of-first (suc n) (x ∷ xs) (suc i) d l h = nth-of-first n xs i d (omega arith) (omega arith)
-
-  pub nth-beyond-first : (n : ℕ) (xs : List X) (i : ℕ) → n ≤ i → nth (take n xs) i ≡ None
-  nth-beyond-first zero xs i l = refl
-  nth-beyond-first (suc n) [] i l = refl
-  nth-beyond-first (suc n) (x ∷ xs) zero l = absurd (omega arith)
-  nth-beyond-first (suc n) (x ∷ xs) (suc i) l = nth-beyond-first n xs i (omega arith)

@@ -1,0 +1,3 @@
+pub mod Distances
+pub mod Ranges
+pub mod Margins
