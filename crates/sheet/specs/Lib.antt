@@ -1,0 +1,5 @@
+pub mod Contents
+pub mod Calls
+
+
+pub mod Reading

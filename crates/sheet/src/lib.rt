@@ -1,0 +1,4 @@
+// The sheet and its calls.
+mod sheet;
+
+pub use sheet::Sheet;
