@@ -1,6 +1,6 @@
 // The sliding kind keeps the rules of a kind.
 ghost use mathlib.Core.Path.{_≡_};
-ghost use Rattle.sliding.specs.Grid.{sliding-model, stored-as};
+ghost use Rattle.sliding.specs.Grid.{sliding-grid, sliding-model, stored-as};
 ghost use Rattle.sliding.specs.Marks.{Sliding-marks};
 use crate::mark::Sliding;
 use crate::rounding::Shift;
@@ -33,6 +33,13 @@ impl Sliding {
         ensures marks { λ _. ⌜ Sliding-marks ⌝ }
     {
         stored(mantissa, scale)
+    }
+
+    // The mark in whole 1/16,777,216, exactly.
+    pub fn units(self) -> i64
+        ensures { λ r. ⌜ r ≡ sliding-grid .size self ⌝ }
+    {
+        scaled(self.mantissa, self.scale)
     }
 }
 

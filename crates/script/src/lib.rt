@@ -1,0 +1,16 @@
+// Scripts: one call a line, in words.
+mod call;
+mod hex;
+mod parse;
+mod slip;
+mod words;
+
+pub use call::Call;
+pub use call::KindName;
+pub use call::Opening;
+pub use hex::bytes_of;
+pub use parse::call_of;
+pub use slip::Problem;
+pub use slip::ProblemDisplay;
+pub use slip::Slip;
+pub use words::Words;
