@@ -1,5 +1,6 @@
 // Scripts: one call a line, in words.
 mod call;
+mod counts;
 mod hex;
 mod parse;
 mod slip;
@@ -8,7 +9,9 @@ mod words;
 pub use call::Call;
 pub use call::KindName;
 pub use call::Opening;
-pub use hex::bytes_of;
+pub use counts::Counts;
+pub use counts::counts_of;
+pub use hex::append_bytes;
 pub use parse::call_of;
 pub use slip::Problem;
 pub use slip::ProblemDisplay;
