@@ -17,7 +17,7 @@ use std::fs;
 use std::io::BufRead;
 use std::io::BufReader;
 
-// The formula of a file with bytes in hexadecimal.
+// The formula of a file with bytes in hexadecimal. Lines that begin with # are passed over.
 fn formula_of(rt: &LibcRuntime, file: &str) -> Result<Vec<u8>, Stop> {
     let Ok(text) = fs::read_to_string(rt, file) else {
         return Err(unread(rt, file));
@@ -26,6 +26,9 @@ fn formula_of(rt: &LibcRuntime, file: &str) -> Result<Vec<u8>, Stop> {
     let mut line = 0u64;
     for digits in text.lines() {
         line = line.wrapping_add(1);
+        if digits.starts_with("#") {
+            continue;
+        }
         if let Err(slip) = append_bytes(&mut bytes, digits) {
             return Err(slipped(rt, line, slip));
         }

@@ -15,5 +15,6 @@ pub use hex::append_bytes;
 pub use parse::call_of;
 pub use slip::Problem;
 pub use slip::ProblemDisplay;
+pub use slip::ProblemPartialEq;
 pub use slip::Slip;
 pub use words::Words;
