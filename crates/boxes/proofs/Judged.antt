@@ -54,7 +54,7 @@ module _ {lower upper : List ℤ} where
   module _ {lowers uppers : List ℤ} {n : ℕ} (j : Judged lower upper lowers uppers n) (k : n < length lower) (k′ : n < length upper) where
     next : ranges 0 lower upper ≡ after (range (getD lower n (pos 0)) (getD upper n (pos 0)) n) (λ _. ranges (n + 1) (drop (n + 1) lower) (drop (n + 1) upper))
     next = j .rest ∙ ap₂ (ranges n) (drop-more lower n (pos 0) k) (drop-more upper n (pos 0) k′)
-      ∙ ap (λ i. after (range (getD lower n (pos 0)) (getD upper n (pos 0)) n) (λ _. ranges i (drop (n + 1) lower) (drop (n + 1) upper))) {x = suc n} {y = n + 1} (omega arith)
+        ∙ ap (λ i. after (range (getD lower n (pos 0)) (getD upper n (pos 0)) n) (λ _. ranges i (drop (n + 1) lower) (drop (n + 1) upper))) {x = suc n} {y = n + 1} (omega arith)
 
     module _ {p : ℤ × ℤ} (few : n < 8) (q : Ok p ≡ range (getD lower n (pos 0)) (getD upper n (pos 0)) n) where
       told : (p ≡ (getD lower n (pos 0), getD upper n (pos 0))) × (getD lower n (pos 0) ≤ℤ getD upper n (pos 0))
@@ -67,9 +67,10 @@ module _ {lower upper : List ℤ} where
         lows = stored lowers lower (p .0) (j .all-lowers) k (j .lows) (ap (λ z. z .0) (told .0));
         highs = stored uppers upper (p .1) (j .all-uppers) k′ (j .highs) (ap (λ z. z .1) (told .0));
         ordered = below-more (λ c. getD (set lowers n (p .0)) c (pos 0) ≤ℤ getD (set uppers n (p .1)) c (pos 0)) n
-          (λ c h. subst₂ _≤ℤ_ (sym (getD-set-other lowers n c (p .0) (pos 0) (λ e. absurd (omega arith)))) (sym (getD-set-other uppers n c (p .1) (pos 0) (λ e. absurd (omega arith)))) (j .ordered c h))
-          (subst₂ _≤ℤ_ (sym (getD-set-same lowers n (p .0) (pos 0) (omega (arith, j .all-lowers)) ∙ ap (λ z. z .0) (told .0))) (sym (getD-set-same uppers n (p .1) (pos 0) (omega (arith, j .all-uppers)) ∙ ap (λ z. z .1) (told .0))) (told .1));
-        rest = next ∙ ap (λ r. after r (λ _. ranges (n + 1) (drop (n + 1) lower) (drop (n + 1) upper))) (sym q) }
+            (λ c h. subst₂ _≤ℤ_ (sym (getD-set-other lowers n c (p .0) (pos 0) (λ e. absurd (omega arith)))) (sym (getD-set-other uppers n c (p .1) (pos 0) (λ e. absurd (omega arith)))) (j .ordered c h))
+            (subst₂ _≤ℤ_ (sym (getD-set-same lowers n (p .0) (pos 0) (omega (arith, j .all-lowers)) ∙ ap (λ z. z .0) (told .0))) (sym (getD-set-same uppers n (p .1) (pos 0) (omega (arith, j .all-uppers)) ∙ ap (λ z. z .1) (told .0))) (told .1));
+        rest = next ∙ ap (λ r. after r (λ _. ranges (n + 1) (drop (n + 1) lower) (drop (n + 1) upper))) (sym q);
+      }
         where
           stored : (xs ys : List ℤ) (x : ℤ) → length xs ≡ 8 → n < length ys → take n xs ≡ take n ys → x ≡ getD ys n (pos 0) → take (n + 1) (set xs n x) ≡ take (n + 1) ys
           stored xs ys x l h e v = take-more-set xs n x (omega arith) ∙ (λ i. e i ++ v i ∷ []) ∙ sym (take-more ys n (pos 0) h)

@@ -42,7 +42,7 @@ centred-is l u x channel y e = subst (Within l u x) (sym e) (centred-told l u x 
 
 pub centred-in : {l u l′ u′ y y′ : ℤ} (x : ℤ) (channel : ℕ) → l′ ≡ l → u′ ≡ u → y′ ≡ y → Ok y ≡ centred l′ u′ x channel → (l ≤ℤ y′) × (y′ ≤ℤ u)
 centred-in {l} {u} {l′} {u′} {y} {y′} x channel el eu ey e = let p = centred-is l′ u′ x channel y e in
-  (subst₂ _≤ℤ_ el (sym (ey ∙ p .0)) (p .1), subst₂ _≤ℤ_ (sym (ey ∙ p .0)) eu (p .2))
+    (subst₂ _≤ℤ_ el (sym (ey ∙ p .0)) (p .1), subst₂ _≤ℤ_ (sym (ey ∙ p .0)) eu (p .2))
 
 -- ---- the steps of opening
 module _ (lower upper : List ℤ) (swept : ℕ) (centre : ℤ) where
@@ -66,7 +66,7 @@ module _ (lower upper : List ℤ) (swept : ℕ) (centre : ℤ) where
       module _ (h : swept < length lower) where
         ends : opened lower upper swept centre ≡ about (getD lower swept (pos 0)) (getD upper swept (pos 0))
         ends = opened-is ∙ ap judged q ∙ ap₂ (λ o n. after (found NoChannel swept o) (λ l. after (found NoChannel swept n) (λ u. about l u)))
-          (nth-getD lower swept (pos 0) h) (nth-getD upper swept (pos 0) (subst (λ n. swept < n) same h))
+            (nth-getD lower swept (pos 0) h) (nth-getD upper swept (pos 0) (subst (λ n. swept < n) same h))
 
         -- the ends and the centre as the code has them
         module _ {l u x : ℤ} (el : l ≡ getD lower swept (pos 0)) (eu : u ≡ getD upper swept (pos 0)) (ex : x ≡ centre) where
@@ -77,9 +77,9 @@ module _ (lower upper : List ℤ) (swept : ℕ) (centre : ℤ) where
           bad-centre k = sym (ends ∙ ap (λ r. after r (λ x. Ok (record { lower = lower; upper = upper; swept = swept; centre = x }))) (sym (k ∙ same-centred)))
 
           pub opens : {y y′ : ℤ} {lowers uppers : List ℤ} → y′ ≡ y → lowers ≡ lower → uppers ≡ upper → Ok y ≡ centred l u x swept
-            → Ok (record { lower = lowers; upper = uppers; swept = swept; centre = y′ }) ≡ opened lower upper swept centre
+              → Ok (record { lower = lowers; upper = uppers; swept = swept; centre = y′ }) ≡ opened lower upper swept centre
           opens ey e f k = (λ i. Ok (record { lower = e i; upper = f i; swept = swept; centre = ey i }))
-            ∙ sym (ends ∙ ap (λ r. after r (λ x. Ok (record { lower = lower; upper = upper; swept = swept; centre = x }))) (sym (k ∙ same-centred)))
+              ∙ sym (ends ∙ ap (λ r. after r (λ x. Ok (record { lower = lower; upper = upper; swept = swept; centre = x }))) (sym (k ∙ same-centred)))
 
 -- what a refused step returns
 pub exit : (r : Result ChannelBox Fault) {e : Fault} {F : Result Box Fault} → ErrBy r (λ y. y ≡ e) → Err e ≡ F → boxed r ≡ F

@@ -47,9 +47,9 @@ centred l u x channel = after (counted x channel) (λ x. cond (leZ l x && leZ x 
 
 abbrev pub opened : List ℤ → List ℤ → ℕ → ℤ → Result Box Fault
 opened lower upper swept centre =
-  cond (eqb (length lower) 0 || ltb 8 (length lower) || not (eqb (length lower) (length upper))) (refused Channels 0)
-  (after (ranges 0 lower upper) (λ _.
-  after (found NoChannel swept (nth lower swept)) (λ l.
-  after (found NoChannel swept (nth upper swept)) (λ u.
-  after (centred l u centre swept) (λ x.
-  Ok (record { lower = lower; upper = upper; swept = swept; centre = x }))))))
+    cond (eqb (length lower) 0 || ltb 8 (length lower) || not (eqb (length lower) (length upper))) (refused Channels 0)
+    (after (ranges 0 lower upper) (λ _.
+    after (found NoChannel swept (nth lower swept)) (λ l.
+    after (found NoChannel swept (nth upper swept)) (λ u.
+    after (centred l u centre swept) (λ x.
+    Ok (record { lower = lower; upper = upper; swept = swept; centre = x }))))))

@@ -10,7 +10,10 @@ fn count(n: i64, channel: usize) -> Result<i32, Fault>
     ensures { λ r. ⌜ r ≡ boxes.counted n channel ⌝ }
 {
     if n < -1_073_741_823 || n > 1_073_741_823 {
-        return Err(Fault { cause: Cause::Number, place: channel });
+        return Err(Fault {
+            cause: Cause::Number,
+            place: channel,
+        });
     }
     Ok(n as i32)
 }
@@ -21,7 +24,10 @@ fn range(lower: i64, upper: i64, channel: usize) -> Result<(i32, i32), Fault>
     let l = count(lower, channel)?;
     let u = count(upper, channel)?;
     if l > u {
-        return Err(Fault { cause: Cause::Order, place: channel });
+        return Err(Fault {
+            cause: Cause::Order,
+            place: channel,
+        });
     }
     Ok((l, u))
 }
@@ -31,7 +37,10 @@ fn centred(lower: i32, upper: i32, centre: i64, channel: usize) -> Result<i32, F
 {
     let x = count(centre, channel)?;
     if x < lower || x > upper {
-        return Err(Fault { cause: Cause::Centre, place: channel });
+        return Err(Fault {
+            cause: Cause::Centre,
+            place: channel,
+        });
     }
     Ok(x)
 }
@@ -41,16 +50,30 @@ impl ChannelBox {
     pub fn blank() -> ChannelBox
         ensures { λ r. ⌜ box-of r ≡ boxes.blank-box ⌝ }
     {
-        ChannelBox { channels: 1, lower: [0; 8], upper: [0; 8], swept: 0, centre: 0 }
+        ChannelBox {
+            channels: 1,
+            lower: [0; 8],
+            upper: [0; 8],
+            swept: 0,
+            centre: 0,
+        }
     }
 
     // The box of lower and upper ends, a swept channel and its centre. It is judged channel by channel, up to the first bad one.
-    pub fn opened(lower: &[i64], upper: &[i64], swept: usize, centre: i64) -> Result<ChannelBox, Fault>
+    pub fn opened(
+        lower: &[i64],
+        upper: &[i64],
+        swept: usize,
+        centre: i64,
+    ) -> Result<ChannelBox, Fault>
         ensures { λ r. ⌜ boxed r ≡ boxes.opened (now (lower .entry)) (now (upper .entry)) swept centre ⌝ }
     {
         let channels = lower.len();
         if channels == 0 || channels > 8 || channels != upper.len() {
-            return Err(Fault { cause: Cause::Channels, place: 0 });
+            return Err(Fault {
+                cause: Cause::Channels,
+                place: 0,
+            });
         }
         let mut lowers = [0; 8];
         let mut uppers = [0; 8];
@@ -60,9 +83,18 @@ impl ChannelBox {
             uppers[c] = u;
         }
         if swept >= channels {
-            return Err(Fault { cause: Cause::NoChannel, place: swept });
+            return Err(Fault {
+                cause: Cause::NoChannel,
+                place: swept,
+            });
         }
         let centre = centred(lowers[swept], uppers[swept], centre, swept)?;
-        Ok(ChannelBox { channels, lower: lowers, upper: uppers, swept, centre })
+        Ok(ChannelBox {
+            channels,
+            lower: lowers,
+            upper: uppers,
+            swept,
+            centre,
+        })
     }
 }

@@ -13,7 +13,9 @@ fn trips(bytes: &[u8], n: u32) -> Result<(), Fail> {
     check_eq(number(bytes, &mut place).ok().unwrap_or(0), n)?;
     check_eq(place.at, bytes.len())?;
     let mut out = [0u8; 8];
-    let length = write(&[Line::Channel(n as usize)], &mut out).ok().unwrap_or(0);
+    let length = write(&[Line::Channel(n as usize)], &mut out)
+        .ok()
+        .unwrap_or(0);
     check_eq(length, bytes.len().saturating_add(2))?;
     check_eq(out[0], 1)?;
     check_eq(out[1], 0)?;

@@ -22,7 +22,12 @@ fn words(rt: LibcRuntime) -> Result<(), Fail> {
     slips(heap, "add sum 0", "0", Problem::Missing)?;
     slips(heap, "strike 1", "1", Problem::Surplus)?;
     slips(heap, "open upper 1", "upper", Problem::Expected("lower"))?;
-    slips(heap, "report 9223372036854775808", "9223372036854775808", Problem::NoNumber)?;
+    slips(
+        heap,
+        "report 9223372036854775808",
+        "9223372036854775808",
+        Problem::NoNumber,
+    )?;
     slips(heap, "report -1", "-1", Problem::NoIndex)?;
     slips(heap, "lend 129 0", "129", Problem::Beyond)?;
     slips(heap, "working 128", "128", Problem::Beyond)?;

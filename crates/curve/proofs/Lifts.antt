@@ -27,14 +27,16 @@ module _ {K : Type 0} (m : Model K) (rules : Rules m) (f : Frac → Frac) (image
     where
       P : Option (Slopes K) → Type 0
       P = Sloped? m h (f u) (f u0)
+
       times : {s t : Span K} {a b : Frac} (w : Span K) → spans.product m s t ≡ Some w → Held m s a → Held m t b → Held m w (a *F b)
       times w e i j = product-in m rules _ _ w _ _ e i j
+
       slopes : P (bend (p .u) (p .u0) >>= (λ k. lift-slopes m k (p .slopes)))
       slopes =
-        step P _ _ tt (λ k ek. step P _ _ tt (λ s es. step P _ _ tt (λ a ea. step P _ _ tt (λ b eb.
-        step P _ _ tt (λ c1 ec1. step P _ _ tt (λ c2 ec2. step P _ _ tt (λ c3 ec3. step P _ _ tt (λ c ec.
+          step P _ _ tt (λ k ek. step P _ _ tt (λ s es. step P _ _ tt (λ a ea. step P _ _ tt (λ b eb.
+          step P _ _ tt (λ c1 ec1. step P _ _ tt (λ c2 ec2. step P _ _ tt (λ c3 ec3. step P _ _ tt (λ c ec.
           let S = sloped m p h u u0 tp s es in
           let x = bends .law _ _ k ek u u0 (tp .here) (tp .centre) (inner m p h u u0 tp) in
           slopes-of m a b c (times a ea (x .g-in) (S .a-in)) (times b eb (x .e-in) (S .b-in))
-            (sum-in m rules _ _ c _ _ ec (times c1 ec1 (x .g-in) (S .c-in)) (times c3 ec3 (times c2 ec2 (x .k-in) (S .a-in)) (S .b-in)))
-            (curve-slope (x .e) (x .g) (x .k) (x .rise) (x .bend) (S .slope))))))))))
+          (sum-in m rules _ _ c _ _ ec (times c1 ec1 (x .g-in) (S .c-in)) (times c3 ec3 (times c2 ec2 (x .k-in) (S .a-in)) (S .b-in)))
+          (curve-slope (x .e) (x .g) (x .k) (x .rise) (x .bend) (S .slope))))))))))

@@ -55,7 +55,7 @@ module _ {K : Type 0} (m : Model K) (rules : Rules m) where
   -- ---- the row for U0 below 0
   left-ok : (u u0 : Span K) → 0F <F m .value (u .upper) → m .value (u0 .upper) <F 0F → L? u u0 (left-row m (u .upper) (u0 .upper))
   left-ok u u0 hq hs =
-    step P _ _ tt (λ n en. step P _ _ tt (λ d ed. step P _ _ tt (λ g eg. step P _ _ tt (λ t et. step P _ _ tt (λ k ek.
+      step P _ _ tt (λ n en. step P _ _ tt (λ d ed. step P _ _ tt (λ g eg. step P _ _ tt (λ t et. step P _ _ tt (λ k ek.
       magnitude-left (interval m u) (interval m u0) (interval m (spans.point m (minus-one m))) (interval m (spans.span m (minus-one m) (g .upper))) (interval m (spans.span m (m .nought) (k .upper))) (record {
         q-above = hq;
         s-below = hs;
@@ -63,10 +63,12 @@ module _ {K : Type 0} (m : Model K) (rules : Rules m) where
         g-low = ≤F-of-≈ minus-one-is;
         g-high = λ x ex. quotient-in m rules n d g _ _ x eg (sum-in m rules _ _ n _ _ en (at-point (u .upper)) (at-point (u0 .upper))) (difference-in m rules _ _ d _ _ ed (at-point (u .upper)) (at-point (u0 .upper))) ex .high;
         k-low = ≤F-of-≈ (rules .nought-is);
-        k-high = λ x ex. quotient-in m rules _ t k _ _ x ek (one-in m rules) (sum-in m rules _ _ t _ _ et negative negative) ex .high }))))))
+        k-high = λ x ex. quotient-in m rules _ t k _ _ x ek (one-in m rules) (sum-in m rules _ _ t _ _ et negative negative) ex .high;
+      }))))))
     where
       P : Option (Shape K) → Type 0
       P = L? u u0
+
       negative : Held m (spans.point m (m .opposite (u0 .upper))) (negF (m .value (u0 .upper)))
       negative = held-≈ m _ (rules .opposite-is _) (at-point _)
 
@@ -74,7 +76,7 @@ module _ {K : Type 0} (m : Model K) (rules : Rules m) where
   turn-ok : (u u0 : Span K) (o : Option (Shape K)) → L? (spans.negated m u) (spans.negated m u0) o → L? u u0 (turned m o)
   turn-ok u u0 None l = tt
   turn-ok u u0 (Some k) l = magnitude-mirror (interval m u) (interval m u0) _ _ _ (interval m (spans.negated m u)) (interval m (spans.negated m u0)) (interval m (k .e)) (interval m (k .g))
-    (negated-in m rules u) (negated-in m rules u0) (negated-in m rules (k .e)) (negated-in m rules (k .g)) l
+      (negated-in m rules u) (negated-in m rules u0) (negated-in m rules (k .e)) (negated-in m rules (k .g)) l
 
   -- a mark above 0 has its negative below 0, and so the other way round
   under : (a : K) → m .value (m .nought) <F m .value a → m .value (m .opposite a) <F 0F
@@ -91,21 +93,22 @@ module _ {K : Type 0} (m : Model K) (rules : Rules m) where
 
   rows : (u u0 : Span K) → L? u u0 (magnitude-shape m u u0)
   rows u u0 = by-le _ _ (L? u u0) _ _
-    (λ h. magnitude-falling (interval m u) (interval m u0) _ _ _ (≤0 m rules h) in-minus-one in-minus-one (zero-in m rules))
-    (λ hq. by-le _ _ (L? u u0) _ _
+      (λ h. magnitude-falling (interval m u) (interval m u0) _ _ _ (≤0 m rules h) in-minus-one in-minus-one (zero-in m rules))
+      (λ hq. by-le _ _ (L? u u0) _ _
       (λ h. magnitude-rising (interval m u) (interval m u0) _ _ _ (0≤ m rules h) (one-in m rules) (one-in m rules) (zero-in m rules))
       (λ hp. by-le _ _ (L? u u0) _ _
-        (λ hs. by-le _ _ (L? u u0) _ _
-          (λ hr. magnitude-across (interval m u) (interval m u0) _ _ _ low-across high-across low-across high-across (zero-in m rules))
-          (λ hr. turn-ok u u0 _ (left-ok (spans.negated m u) (spans.negated m u0) (over (u .lower) hp) (under (u0 .lower) hr))))
-        (λ hs. left-ok u u0 (≤< (≤F-of-≈ (≈-sym (rules .nought-is))) hq) (<≤ hs (≤F-of-≈ (rules .nought-is))))))
+      (λ hs. by-le _ _ (L? u u0) _ _
+      (λ hr. magnitude-across (interval m u) (interval m u0) _ _ _ low-across high-across low-across high-across (zero-in m rules))
+      (λ hr. turn-ok u u0 _ (left-ok (spans.negated m u) (spans.negated m u0) (over (u .lower) hp) (under (u0 .lower) hr))))
+      (λ hs. left-ok u u0 (≤< (≤F-of-≈ (≈-sym (rules .nought-is))) hq) (<≤ hs (≤F-of-≈ (rules .nought-is))))))
 
   pub magnitude-bends : Bends m magnitudeF (λ s. Some (spans.magnitude m s)) (magnitude-shape m)
   unfolding magnitudeF
   magnitude-bends = record {
-      values = λ s t x e h. subst (λ w. Held m w (magnitudeF x)) (some-is _ _ e) (magnitude-in m rules s x h);
-      nested = λ s s′ w hs hs′ p e. record { span = _; there = refl; within = subst (Within m (spans.magnitude m s′)) (some-is _ _ e) (magnitude-nested m rules s s′ w hs hs′ p) };
-      law = λ u u0 k ek. subst (L? u u0) ek (rows u u0) }
+    values = λ s t x e h. subst (λ w. Held m w (magnitudeF x)) (some-is _ _ e) (magnitude-in m rules s x h);
+    nested = λ s s′ w hs hs′ p e. record { span = _; there = refl; within = subst (Within m (spans.magnitude m s′)) (some-is _ _ e) (magnitude-nested m rules s s′ w hs hs′ p) };
+    law = λ u u0 k ek. subst (L? u u0) ek (rows u u0);
+  }
     where
       some-is : (x y : Span K) → Some x ≡ Some y → x ≡ y
       some-is x y e = cc

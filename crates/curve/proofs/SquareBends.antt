@@ -21,7 +21,7 @@ module _ {K : Type 0} (m : Model K) (rules : Rules m) where
 
   shape-law : (u u0 : Span K) → L? u u0 (square-shape m u u0)
   shape-law u u0 = step (L? u u0) _ _ tt (λ e ee. step (L? u u0) _ _ tt (λ g eg.
-    square-law (interval m u) (interval m u0) (interval m e) (interval m g) (interval m (spans.one-span m))
+      square-law (interval m u) (interval m u0) (interval m e) (interval m g) (interval m (spans.one-span m))
       (λ a b x y. sum-in m rules _ _ e a b ee x y) (λ a b x y. sum-in m rules _ _ g a b eg x y) (one-in m rules)))
 
   pub square-bends : Bends m squareF (spans.square m) (square-shape m)
@@ -29,4 +29,5 @@ module _ {K : Type 0} (m : Model K) (rules : Rules m) where
   square-bends = record {
     values = λ s t x e h. square-in m rules s t x e h;
     nested = λ s s′ w hs hs′ p e. square-nested m rules s s′ w hs hs′ p e;
-    law = λ u u0 k ek. subst (L? u u0) ek (shape-law u u0) }
+    law = λ u u0 k ek. subst (L? u u0) ek (shape-law u u0);
+  }

@@ -58,10 +58,18 @@ fn lift_slopes<K: NumberKind>(u: Span<K>, u0: Span<K>, f: &Shape<K>, p: &Record<
     let Some(c) = c1.sum(c3) else {
         return Record::flat(u, u0);
     };
-    Record { u, u0, slopes: Some(Slopes { a, b, c }) }
+    Record {
+        u,
+        u0,
+        slopes: Some(Slopes { a, b, c }),
+    }
 }
 
-fn lift_steps<K: NumberKind, C: Curve<K>>(curve: C, p: &Record<K>, place: usize) -> Result<Record<K>, Fault>
+fn lift_steps<K: NumberKind, C: Curve<K>>(
+    curve: C,
+    p: &Record<K>,
+    place: usize,
+) -> Result<Record<K>, Fault>
     ensures { λ r. ⌜ r ≡ given place (curves.lift (K·NumberKind .model) (C·Curve .image) (C·Curve .bend) (now (p .entry))) ⌝ }
 {
     let u = present(curve.values(p.u), place)?;
@@ -73,7 +81,11 @@ fn lift_steps<K: NumberKind, C: Curve<K>>(curve: C, p: &Record<K>, place: usize)
 }
 
 // The record of a curve's value.
-pub fn lift<K: NumberKind, C: Curve<K>>(curve: C, p: &Record<K>, place: usize) -> Result<Record<K>, Fault>
+pub fn lift<K: NumberKind, C: Curve<K>>(
+    curve: C,
+    p: &Record<K>,
+    place: usize,
+) -> Result<Record<K>, Fault>
     ensures value { λ r. ⌜ r ≡ given place (curves.lift (K·NumberKind .model) (C·Curve .image) (C·Curve .bend) (now (p .entry))) ⌝ }
     ensures truth { λ r. ⌜ Curved (K·NumberKind .model) (C·Curve .exact) (C·Curve .image (now (p .entry) .u)) (now (p .entry)) r ⌝ }
 {

@@ -16,21 +16,36 @@ fn falling<K: NumberKind>() -> Shape<K>
     ensures { λ r. ⌜ r ≡ curves.falling (K·NumberKind .model) ⌝ }
 {
     let e = Span::point(K::one().negated());
-    Shape { e, g: e, k: Span::point(K::zero()) }
+    Shape {
+        e,
+        g: e,
+        k: Span::point(K::zero()),
+    }
 }
 
 fn rising<K: NumberKind>() -> Shape<K>
     ensures { λ r. ⌜ r ≡ curves.rising (K·NumberKind .model) ⌝ }
 {
     let e = Span::point(K::one());
-    Shape { e, g: e, k: Span::point(K::zero()) }
+    Shape {
+        e,
+        g: e,
+        k: Span::point(K::zero()),
+    }
 }
 
 fn across<K: NumberKind>() -> Shape<K>
     ensures { λ r. ⌜ r ≡ curves.across (K·NumberKind .model) ⌝ }
 {
-    let e = Span { lower: K::one().negated(), upper: K::one() };
-    Shape { e, g: e, k: Span::point(K::zero()) }
+    let e = Span {
+        lower: K::one().negated(),
+        upper: K::one(),
+    };
+    Shape {
+        e,
+        g: e,
+        k: Span::point(K::zero()),
+    }
 }
 
 // U0 below 0 and U's upper end q above it; s is U0's upper end.
@@ -54,7 +69,17 @@ fn left_row<K: NumberKind>(q: K, s: K) -> Option<Shape<K>>
         return None;
     };
     let low = K::one().negated();
-    Some(Shape { e: Span::point(low), g: Span { lower: low, upper: g.upper }, k: Span { lower: K::zero(), upper: k.upper } })
+    Some(Shape {
+        e: Span::point(low),
+        g: Span {
+            lower: low,
+            upper: g.upper,
+        },
+        k: Span {
+            lower: K::zero(),
+            upper: k.upper,
+        },
+    })
 }
 
 // The row above by the mirror image: E and G negated.
@@ -64,7 +89,11 @@ fn turned<K: NumberKind>(o: Option<Shape<K>>) -> Option<Shape<K>>
     let Some(f) = o else {
         return None;
     };
-    Some(Shape { e: f.e.negated(), g: f.g.negated(), k: f.k })
+    Some(Shape {
+        e: f.e.negated(),
+        g: f.g.negated(),
+        k: f.k,
+    })
 }
 
 fn magnitude_shape<K: NumberKind>(u: Span<K>, u0: Span<K>) -> Option<Shape<K>>

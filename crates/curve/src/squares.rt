@@ -20,7 +20,11 @@ fn square_shape<K: NumberKind>(u: Span<K>, u0: Span<K>) -> Option<Shape<K>>
     let Some(g) = u.sum(u0) else {
         return None;
     };
-    Some(Shape { e, g, k: Span::point(K::one()) })
+    Some(Shape {
+        e,
+        g,
+        k: Span::point(K::one()),
+    })
 }
 
 pub impl<K: NumberKind> Curve<K> for Square as SquareCurve {

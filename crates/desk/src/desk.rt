@@ -54,7 +54,12 @@ impl<K: Units> Desk<K> {
     pub fn blank() -> Desk<K> {
         let nought = Span::point(K::zero());
         let flat = Record::flat(nought, nought);
-        Desk { sheet: Sheet::blank(), working: [flat; 128], spare: [flat; 128], lent: 64 }
+        Desk {
+            sheet: Sheet::blank(),
+            working: [flat; 128],
+            spare: [flat; 128],
+            lent: 64,
+        }
     }
 
     // From now on so many working lines are lent.
@@ -63,7 +68,12 @@ impl<K: Units> Desk<K> {
     }
 
     pub fn open(&mut self, heap: Global, opening: &Opening) -> Result<String, AllocError> {
-        let answer = self.sheet.open(opening.lower.as_slice(), opening.upper.as_slice(), opening.swept, opening.centre);
+        let answer = self.sheet.open(
+            opening.lower.as_slice(),
+            opening.upper.as_slice(),
+            opening.swept,
+            opening.centre,
+        );
         outcome(heap, "open", answer)
     }
 
@@ -115,9 +125,16 @@ impl<K: Units> Desk<K> {
             Ok(report) => {
                 let middle = report.middle;
                 let margin = report.margin;
-                let value = Decimal { units: middle.saturating_mul(256) };
-                let about = Decimal { units: margin.saturating_mul(256) };
-                format!(heap, "report {line}: middle {middle} margin {margin} ({value} +- {about})")
+                let value = Decimal {
+                    units: middle.saturating_mul(256),
+                };
+                let about = Decimal {
+                    units: margin.saturating_mul(256),
+                };
+                format!(
+                    heap,
+                    "report {line}: middle {middle} margin {margin} ({value} +- {about})"
+                )
             }
             Err(fault) => {
                 let refusal = Refusal { fault };
@@ -131,18 +148,24 @@ impl<K: Units> Desk<K> {
         if line >= self.sheet.held() || line >= MEMORY {
             return format!(heap, "record {line}: not held");
         }
-        let held = Held { record: self.working[line] };
+        let held = Held {
+            record: self.working[line],
+        };
         format!(heap, "record {line}: {held}")
     }
 
     // A working line, held or not.
     pub fn working(&self, heap: Global, line: usize) -> Result<String, AllocError> {
-        let held = Held { record: self.working[line.min(MEMORY - 1)] };
+        let held = Held {
+            record: self.working[line.min(MEMORY - 1)],
+        };
         format!(heap, "working {line}: {held}")
     }
 
     pub fn spare(&self, heap: Global, line: usize) -> Result<String, AllocError> {
-        let held = Held { record: self.spare[line.min(MEMORY - 1)] };
+        let held = Held {
+            record: self.spare[line.min(MEMORY - 1)],
+        };
         format!(heap, "spare {line}: {held}")
     }
 }

@@ -24,7 +24,11 @@ pub struct Station {
 impl Station {
     // A blank sheet of a kind.
     pub fn blank(kind: KindName) -> Station {
-        Station { kind, fixed: Desk::blank(), sliding: Desk::blank() }
+        Station {
+            kind,
+            fixed: Desk::blank(),
+            sliding: Desk::blank(),
+        }
     }
 
     // Makes a call, and answers in words.

@@ -50,7 +50,9 @@ pub impl fmt::Display for Refusal as RefusalDisplay {
     fn fmt<W: fmt::Write>(&self, f: &mut fmt::Formatter<W>) -> fmt::Result {
         let number = self.fault.cause.number();
         let place = self.fault.place;
-        let text = CauseText { cause: self.fault.cause };
+        let text = CauseText {
+            cause: self.fault.cause,
+        };
         write!(f, "refused {number} at {place} ({text})")
     }
 }
@@ -64,7 +66,14 @@ pub struct Ends {
 
 impl Ends {
     pub fn of<K: Units>(span: Span<K>) -> Ends {
-        Ends { lower: Decimal { units: span.lower.units() }, upper: Decimal { units: span.upper.units() } }
+        Ends {
+            lower: Decimal {
+                units: span.lower.units(),
+            },
+            upper: Decimal {
+                units: span.upper.units(),
+            },
+        }
     }
 }
 

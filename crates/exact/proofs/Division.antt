@@ -46,19 +46,19 @@ inv-ok v n = over-ok (v .top) (v .bot) (v .positive) (nonzero-top n)
 -- a factor that is not 0 is taken away
 pub cancelF : (v : Frac) {x y : Frac} → Nonzero v → (v *F x) ≈ (v *F y) → x ≈ y
 cancelF v {x} {y} n e = combine F-ring (v ∷ x ∷ y ∷ invF v ∷ []) x1 x2
-  ( record { by = x3; lhs = x0 ⊗ x1; rhs = x0 ⊗ x2 }
-  ∷ record { by = x2 ⊖ x1; lhs = x0 ⊗ x3; rhs = num (pos 1) } ∷ []) (e, (inv-ok v n, tt)) refl
+    (record { by = x3; lhs = x0 ⊗ x1; rhs = x0 ⊗ x2 }
+    ∷ record { by = x2 ⊖ x1; lhs = x0 ⊗ x3; rhs = num (pos 1) } ∷ []) (e, (inv-ok v n, tt)) refl
 
 -- y / v
 pub divided : (y v : Frac) → Nonzero v → ((y *F invF v) *F v) ≈ y
 divided y v n = combine F-ring (y ∷ v ∷ invF v ∷ []) (x0 ⊗ x2 ⊗ x1) x0
-  (record { by = x0; lhs = x1 ⊗ x2; rhs = num (pos 1) } ∷ []) (inv-ok v n, tt) refl
+    (record { by = x0; lhs = x1 ⊗ x2; rhs = num (pos 1) } ∷ []) (inv-ok v n, tt) refl
 
 -- x × b = a says that x = (1 / b) × a
 pub solved : (x a b : Frac) → Nonzero b → (x *F b) ≈ a → x ≈ (invF b *F a)
 solved x a b n e = combine F-ring (x ∷ a ∷ b ∷ invF b ∷ []) x0 (x3 ⊗ x1)
-  ( record { by = ⊝ x0; lhs = x2 ⊗ x3; rhs = num (pos 1) }
-  ∷ record { by = x3; lhs = x0 ⊗ x2; rhs = x1 } ∷ []) (inv-ok b n, (e, tt)) refl
+    (record { by = ⊝ x0; lhs = x2 ⊗ x3; rhs = num (pos 1) }
+    ∷ record { by = x3; lhs = x0 ⊗ x2; rhs = x1 } ∷ []) (inv-ok b n, (e, tt)) refl
 
 -- ---- signs of inverses
 up-top : (t : ℤ) (d : ℕ) → pos 0 <ℤ t → 0F ≤F over-top t d
@@ -83,8 +83,8 @@ inv-down x h = down-top (x .top) (x .bot) (let k : (x .top *ℤ pos 1) <ℤ (pos
 -- inverses of one sign fall as the fractions rise
 pub inv-falls : (x y : Frac) → Nonzero x → Nonzero y → NN (invF x *F invF y) → x ≤F y → invF y ≤F invF x
 inv-falls x y p q n h = nn→le (nn-≈
-  (combine F-ring (x ∷ y ∷ invF x ∷ invF y ∷ []) ((x1 ⊖ x0) ⊗ (x2 ⊗ x3)) (x2 ⊖ x3)
-    ( record { by = ⊝ x3; lhs = x0 ⊗ x2; rhs = num (pos 1) }
+    (combine F-ring (x ∷ y ∷ invF x ∷ invF y ∷ []) ((x1 ⊖ x0) ⊗ (x2 ⊗ x3)) (x2 ⊖ x3)
+    (record { by = ⊝ x3; lhs = x0 ⊗ x2; rhs = num (pos 1) }
     ∷ record { by = x2; lhs = x1 ⊗ x3; rhs = num (pos 1) } ∷ [])
     (inv-ok x p, (inv-ok y q, tt)) refl)
-  (nn-mul (le→nn h) n))
+    (nn-mul (le→nn h) n))

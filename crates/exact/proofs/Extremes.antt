@@ -42,7 +42,7 @@ max-is-right {x} {y} h = max-ind x y (λ m. m ≈ y) (λ k. ≤F-antisym h k) (�
 -- the lesser is the negative of the greater of the negatives
 pub min-mirror : (u v : Frac) → minF u v ≈ negF (maxF (negF u) (negF v))
 min-mirror u v = min-ind u v (λ m. m ≈ negF (maxF (negF u) (negF v)))
-  (λ h. twice (max-is-left (neg-mono h))) (λ h. twice (max-is-right (neg-mono h)))
+    (λ h. twice (max-is-left (neg-mono h))) (λ h. twice (max-is-right (neg-mono h)))
   where
     twice : {x M : Frac} → M ≈ negF x → x ≈ negF M
     twice {x} {M} e = combine F-ring (x ∷ M ∷ []) x0 (⊝ x1) (record { by = num (pos 1); lhs = x1; rhs = ⊝ x0 } ∷ []) (e, tt) refl

@@ -22,10 +22,13 @@ negE x = record { t = ⊝ (x .t); b = x .b }
 
 abbrev A : FE
 A = record { t = x0; b = x1 }
+
 abbrev B : FE
 B = record { t = x2; b = x3 }
+
 abbrev D : FE
 D = record { t = x4; b = x5 }
+
 abbrev K : ℤ → FE
 K k = record { t = num k; b = num (pos 1) }
 
@@ -36,29 +39,35 @@ abbrev L : FE → FE → Expr
 L p q = p .t ⊗ q .b
 
 pub ≈-trans : {a b c : Frac} → a ≈ b → b ≈ c → a ≈ c
-≈-trans {a} {b} {c} p q = record { cross = cancel _ _ (b .bot) (b .positive)
-  (ring (env a b c) (x0 ⊗ x5 ⊗ x3) ((x0 ⊗ x3) ⊗ x5) refl
-   ∙ ap (λ z. z *ℤ pos (c .bot)) (p .cross)
-   ∙ ring (env a b c) ((x2 ⊗ x1) ⊗ x5) ((x2 ⊗ x5) ⊗ x1) refl
-   ∙ ap (λ z. z *ℤ pos (a .bot)) (q .cross)
-   ∙ ring (env a b c) ((x4 ⊗ x3) ⊗ x1) (x4 ⊗ x1 ⊗ x3) refl) }
+≈-trans {a} {b} {c} p q = record {
+  cross = cancel _ _ (b .bot) (b .positive)
+      (ring (env a b c) (x0 ⊗ x5 ⊗ x3) ((x0 ⊗ x3) ⊗ x5) refl
+      ∙ ap (λ z. z *ℤ pos (c .bot)) (p .cross)
+      ∙ ring (env a b c) ((x2 ⊗ x1) ⊗ x5) ((x2 ⊗ x5) ⊗ x1) refl
+      ∙ ap (λ z. z *ℤ pos (a .bot)) (q .cross)
+      ∙ ring (env a b c) ((x4 ⊗ x3) ⊗ x1) (x4 ⊗ x1 ⊗ x3) refl);
+}
 
 pub +-cong : {a b c d : Frac} → a ≈ b → c ≈ d → (a +F c) ≈ (b +F d)
 unfolding _+F_
-+-cong {a} {b} {c} {d} p q = record { cross =
-    ring ρ ((x0 ⊗ x5 ⊕ x4 ⊗ x1) ⊗ (x3 ⊗ x7)) ((x0 ⊗ x3) ⊗ (x5 ⊗ x7) ⊕ (x4 ⊗ x7) ⊗ (x1 ⊗ x3)) refl
-    ∙ ap₂ (λ s t. s *ℤ (pos (c .bot) *ℤ pos (d .bot)) +ℤ t *ℤ (pos (a .bot) *ℤ pos (b .bot))) (p .cross) (q .cross)
-    ∙ ring ρ ((x2 ⊗ x1) ⊗ (x5 ⊗ x7) ⊕ (x6 ⊗ x5) ⊗ (x1 ⊗ x3)) ((x2 ⊗ x7 ⊕ x6 ⊗ x3) ⊗ (x1 ⊗ x5)) refl }
++-cong {a} {b} {c} {d} p q = record {
+  cross =
+      ring ρ ((x0 ⊗ x5 ⊕ x4 ⊗ x1) ⊗ (x3 ⊗ x7)) ((x0 ⊗ x3) ⊗ (x5 ⊗ x7) ⊕ (x4 ⊗ x7) ⊗ (x1 ⊗ x3)) refl
+      ∙ ap₂ (λ s t. s *ℤ (pos (c .bot) *ℤ pos (d .bot)) +ℤ t *ℤ (pos (a .bot) *ℤ pos (b .bot))) (p .cross) (q .cross)
+      ∙ ring ρ ((x2 ⊗ x1) ⊗ (x5 ⊗ x7) ⊕ (x6 ⊗ x5) ⊗ (x1 ⊗ x3)) ((x2 ⊗ x7 ⊕ x6 ⊗ x3) ⊗ (x1 ⊗ x5)) refl;
+}
   where
     ρ : List ℤ
     ρ = a .top ∷ pos (a .bot) ∷ b .top ∷ pos (b .bot) ∷ c .top ∷ pos (c .bot) ∷ d .top ∷ pos (d .bot) ∷ []
 
 pub *-cong : {a b c d : Frac} → a ≈ b → c ≈ d → (a *F c) ≈ (b *F d)
 unfolding _*F_
-*-cong {a} {b} {c} {d} p q = record { cross =
-    ring ρ ((x0 ⊗ x4) ⊗ (x3 ⊗ x7)) ((x0 ⊗ x3) ⊗ (x4 ⊗ x7)) refl
-    ∙ ap₂ _*ℤ_ (p .cross) (q .cross)
-    ∙ ring ρ ((x2 ⊗ x1) ⊗ (x6 ⊗ x5)) ((x2 ⊗ x6) ⊗ (x1 ⊗ x5)) refl }
+*-cong {a} {b} {c} {d} p q = record {
+  cross =
+      ring ρ ((x0 ⊗ x4) ⊗ (x3 ⊗ x7)) ((x0 ⊗ x3) ⊗ (x4 ⊗ x7)) refl
+      ∙ ap₂ _*ℤ_ (p .cross) (q .cross)
+      ∙ ring ρ ((x2 ⊗ x1) ⊗ (x6 ⊗ x5)) ((x2 ⊗ x6) ⊗ (x1 ⊗ x5)) refl;
+}
   where
     ρ : List ℤ
     ρ = a .top ∷ pos (a .bot) ∷ b .top ∷ pos (b .bot) ∷ c .top ∷ pos (c .bot) ∷ d .top ∷ pos (d .bot) ∷ []
@@ -112,28 +121,29 @@ F·inj-mul a b = record { cross = refl }
 
 abbrev pub F-ring : CRing
 F-ring = record {
-    C = Frac;
-    Eq = _≈_;
-    add = _+F_;
-    mul = _*F_;
-    neg = negF;
-    inj = whole;
-    rfl = λ a. record { cross = refl };
-    sm = λ p. record { cross = sym (p .cross) };
-    tr = ≈-trans;
-    add-cong = +-cong;
-    mul-cong = *-cong;
-    add-assoc = F·add-assoc;
-    add-comm = F·add-comm;
-    zero-add = F·zero-add;
-    mul-assoc = F·mul-assoc;
-    mul-comm = F·mul-comm;
-    one-mul = F·one-mul;
-    zero-mul = F·zero-mul;
-    mul-add = F·mul-add;
-    neg-is = F·neg-is;
-    inj-add = F·inj-add;
-    inj-mul = F·inj-mul }
+  C = Frac;
+  Eq = _≈_;
+  add = _+F_;
+  mul = _*F_;
+  neg = negF;
+  inj = whole;
+  rfl = λ a. record { cross = refl };
+  sm = λ p. record { cross = sym (p .cross) };
+  tr = ≈-trans;
+  add-cong = +-cong;
+  mul-cong = *-cong;
+  add-assoc = F·add-assoc;
+  add-comm = F·add-comm;
+  zero-add = F·zero-add;
+  mul-assoc = F·mul-assoc;
+  mul-comm = F·mul-comm;
+  one-mul = F·one-mul;
+  zero-mul = F·zero-mul;
+  mul-add = F·mul-add;
+  neg-is = F·neg-is;
+  inj-add = F·inj-add;
+  inj-mul = F·inj-mul;
+}
 
 -- the call
 pub ringF : (ρ : List Frac) (a b : Expr) → norm a ≡ norm b → ev F-ring ρ a ≈ ev F-ring ρ b
@@ -147,7 +157,7 @@ pub ≈-sym : {x y : Frac} → x ≈ y → y ≈ x
 
 pub −-cong : {u v u0 v0 : Frac} → u ≈ v → u0 ≈ v0 → (u -F u0) ≈ (v -F v0)
 −-cong {u} {v} {u0} {v0} e e0 = combine F-ring (u ∷ v ∷ u0 ∷ v0 ∷ []) (x0 ⊖ x2) (x1 ⊖ x3)
-  (record { by = num (pos 1); lhs = x0; rhs = x1 } ∷ record { by = num (negsuc 0); lhs = x2; rhs = x3 } ∷ []) (e, (e0, tt)) refl
+    (record { by = num (pos 1); lhs = x0; rhs = x1 } ∷ record { by = num (negsuc 0); lhs = x2; rhs = x3 } ∷ []) (e, (e0, tt)) refl
 
 pub neg-neg : (x : Frac) → negF (negF x) ≈ x
 neg-neg x = ringF (x ∷ []) (⊝ (⊝ x0)) x0 refl

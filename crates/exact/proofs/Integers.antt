@@ -24,28 +24,29 @@ one-*ℤ a = omega (arith, ints)
 
 abbrev pub ℤ-ring : CRing
 ℤ-ring = record {
-    C = ℤ;
-    Eq = λ a b. a ≡ b;
-    add = _+ℤ_;
-    mul = _*ℤ_;
-    neg = negℤ;
-    inj = λ k. k;
-    rfl = λ a. refl;
-    sm = λ p. sym p;
-    tr = λ p q. p ∙ q;
-    add-cong = λ p q. ap₂ _+ℤ_ p q;
-    mul-cong = λ p q. ap₂ _*ℤ_ p q;
-    add-assoc = +ℤ-assoc;
-    add-comm = +ℤ-comm;
-    zero-add = +ℤ-idl;
-    mul-assoc = *ℤ-assoc;
-    mul-comm = *ℤ-comm;
-    one-mul = one-*ℤ;
-    zero-mul = zero-*ℤ;
-    mul-add = *ℤ-+ℤ;
-    neg-is = negℤ-is;
-    inj-add = λ a b. refl;
-    inj-mul = λ a b. refl }
+  C = ℤ;
+  Eq = λ a b. a ≡ b;
+  add = _+ℤ_;
+  mul = _*ℤ_;
+  neg = negℤ;
+  inj = λ k. k;
+  rfl = λ a. refl;
+  sm = λ p. sym p;
+  tr = λ p q. p ∙ q;
+  add-cong = λ p q. ap₂ _+ℤ_ p q;
+  mul-cong = λ p q. ap₂ _*ℤ_ p q;
+  add-assoc = +ℤ-assoc;
+  add-comm = +ℤ-comm;
+  zero-add = +ℤ-idl;
+  mul-assoc = *ℤ-assoc;
+  mul-comm = *ℤ-comm;
+  one-mul = one-*ℤ;
+  zero-mul = zero-*ℤ;
+  mul-add = *ℤ-+ℤ;
+  neg-is = negℤ-is;
+  inj-add = λ a b. refl;
+  inj-mul = λ a b. refl;
+}
 
 -- an identity of ℤ
 pub ring : (ρ : List ℤ) (a b : Expr) → norm a ≡ norm b → ev ℤ-ring ρ a ≡ ev ℤ-ring ρ b

@@ -21,7 +21,7 @@ pub record NN (x : Frac) : Type 0 where
 pub le→nn : {x y : Frac} → x ≤F y → NN (y -F x)
 unfolding _+F_ negF
 le→nn {x} {y} h = let k : (x .top *ℤ pos (y .bot)) ≤ℤ (y .top *ℤ pos (x .bot)) = h .cross in
-  record { nn = rw (neg-*ℤ (x .top) (pos (y .bot))) (omega (arith, ints)) }
+    record { nn = rw (neg-*ℤ (x .top) (pos (y .bot))) (omega (arith, ints)) }
 
 pub nn→le : {x y : Frac} → NN (y -F x) → x ≤F y
 unfolding _+F_ negF

@@ -77,8 +77,10 @@ unfolding _*F_
 pp-mul {x} {y} h k = record { pp = times (x .top) (y .top) (h .pp) (k .pp) }
 
 pub pp-add : {x y : Frac} → PP x → NN y → PP (x +F y)
-pp-add {x} {y} p k = elim (pp-or-nn (x +F y)) [ inl q ↦ q
-  | inr n ↦ absurd (pp-not p (nn-≈ (ringF (x ∷ y ∷ []) (⊝ (x0 ⊕ x1) ⊕ x1) (⊝ x0) refl) (nn-add n k))) ]
+pp-add {x} {y} p k = elim (pp-or-nn (x +F y)) [
+  | inl q ↦ q
+  | inr n ↦ absurd (pp-not p (nn-≈ (ringF (x ∷ y ∷ []) (⊝ (x0 ⊕ x1) ⊕ x1) (⊝ x0) refl) (nn-add n k)))
+]
 
 cut : (a b : ℤ) → pos 0 <ℤ b → pos 0 ≤ℤ (a *ℤ b) → pos 0 ≤ℤ a
 cut a (pos zero) h k = absurd (omega (arith, ints))

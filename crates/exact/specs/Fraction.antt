@@ -17,7 +17,6 @@ pub record Frac : Type 0 where
 infixl 6 _+F_ _-F_
 infixl 7 _*F_
 infix 4 _≈_ _≤F_ _<F_
-
 -- n / d
 abbrev pub ratio : ℤ → (d : ℕ) → 0 < d → Frac
 ratio n d h = record { top = n; bot = d; positive = h }

@@ -24,7 +24,7 @@ floor-count n d h p q = (floor-greatest n d h (negℤ (pos 1073741823)) p, ≤�
 
 pub fixed-some : (n : ℤ) (d : ℕ) (h : 0 < d) (k : Fixed) → k .count ≡ divEuclid n (pos d) → n ≤ℤ (pos 1073741823 *ℤ pos d) → Some k ≡ grid-below fixed-grid (units-over fixed-grid n d h)
 fixed-some n d h k e p = ratio-some fixed-grid fixed-lawful n d h k
-  (subst (λ (z : ℤ). (z *ℤ pos d) ≤ℤ n) (sym e) (floor-low n d h)) p (λ a q. subst (λ (z : ℤ). a .count ≤ℤ z) (sym e) (floor-greatest n d h (a .count) q))
+    (subst (λ (z : ℤ). (z *ℤ pos d) ≤ℤ n) (sym e) (floor-low n d h)) p (λ a q. subst (λ (z : ℤ). a .count ≤ℤ z) (sym e) (floor-greatest n d h (a .count) q))
 
 -- what a call of the ratio answers, at the number that was meant
 pub at-below : (r : Option Fixed) (z n : ℤ) (d : ℕ) (h : 0 < d) → r ≡ grid-below fixed-grid (units-over fixed-grid z d h) → z ≡ n → r ≡ grid-below fixed-grid (units-over fixed-grid n d h)

@@ -37,7 +37,7 @@ at-mark n false h t = absurd t
 
 pub mark-some : (n : ℤ) (f : Fixed) → f .count ≡ n → Some f ≡ mark-of n
 mark-some n f e = let p = at-mark n (count? n) (count-yes n) (yes-count n (subst Count e (f .fits))) in
-  ap Some (same-mark f (p .0) (e ∙ sym (p .2))) ∙ sym (p .1)
+    ap Some (same-mark f (p .0) (e ∙ sym (p .2))) ∙ sym (p .1)
 
 pub mark-none : (n : ℤ) → (Count n → ⊥) → None ≡ mark-of n
 mark-none n k = go (count? n) (count-yes n)
@@ -48,7 +48,7 @@ mark-none n k = go (count? n) (count-yes n)
 
 near : (n : ℤ) → Count n → Nearest fixed-grid n
 near n h = let p = at-mark n (count? n) (count-yes n) (yes-count n h) in
-  record { mark = p .0; found = p .1; low = subst (λ (z : ℤ). z ≤ℤ n) (sym (p .2)) (≤ℤ-refl n); most = λ a e. subst (λ (z : ℤ). a .count ≤ℤ z) (sym (p .2)) e }
+    record { mark = p .0; found = p .1; low = subst (λ (z : ℤ). z ≤ℤ n) (sym (p .2)) (≤ℤ-refl n); most = λ a e. subst (λ (z : ℤ). a .count ≤ℤ z) (sym (p .2)) e }
 
 pub fixed-lawful : Lawful fixed-grid
 fixed-lawful = record {
@@ -58,7 +58,8 @@ fixed-lawful = record {
   distinct = same-mark;
   greatest = λ a. a .fits .1;
   bounded = leZ-yes tt;
-  nearest = λ n lo hi. near n (lo, hi) }
+  nearest = λ n lo hi. near n (lo, hi);
+}
 
 pub fixed-rules : Rules fixed-model
 fixed-rules = grid-rules fixed-grid fixed-lawful
@@ -66,4 +67,5 @@ fixed-rules = grid-rules fixed-grid fixed-lawful
 pub fixed-marks : Fixed-marks
 fixed-marks = record {
   each = λ m h. (mark m (omega (arith, ints), omega (arith, ints)), record { cross = refl });
-  only = λ a. (a .count, let f = a .fits in omega (arith, ints), record { cross = refl }) }
+  only = λ a. (a .count, let f = a .fits in omega (arith, ints), record { cross = refl });
+}

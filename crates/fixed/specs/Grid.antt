@@ -47,7 +47,8 @@ fixed-grid = record {
   nought = mark (pos 0) (leZ-yes tt, leZ-yes tt);
   one = mark (pos 65536) (leZ-yes tt, leZ-yes tt);
   minus = λ f. mark (negℤ (f .count)) (count-negative (f .count) (f .fits));
-  down = mark-of }
+  down = mark-of;
+}
 
 abbrev pub fixed-model : Model Fixed
 fixed-model = grid-model fixed-grid

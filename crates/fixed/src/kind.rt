@@ -44,7 +44,9 @@ fn ratio_below(n: i64, d: u32) -> Option<Fixed>
     if n < -TOP * d as i64 {
         return None;
     }
-    Some(Fixed { count: n.div_euclid(d as i64) as i32 })
+    Some(Fixed {
+        count: n.div_euclid(d as i64) as i32,
+    })
 }
 
 // The least mark not below n / d counts.

@@ -3,9 +3,9 @@ mod replay;
 mod stop;
 mod windows;
 
+use std::env;
 use stop::Stop;
 use stop::StopFromIo;
-use std::env;
 
 const USAGE: &str = "\
 huqabo replay [FILE]            answers calls, one a line, from FILE or standard input

@@ -43,7 +43,14 @@ fn kind_of(rt: &LibcRuntime, name: &Option<String>) -> Result<KindName, Stop> {
     match word.as_str() {
         "fixed" => Ok(KindName::Fixed),
         "sliding" => Ok(KindName::Sliding),
-        _ => Err(slipped(rt, 0, Slip { word: word.as_str(), problem: Problem::NoKind })),
+        _ => Err(slipped(
+            rt,
+            0,
+            Slip {
+                word: word.as_str(),
+                problem: Problem::NoKind,
+            },
+        )),
     }
 }
 
@@ -55,7 +62,13 @@ struct Tally {
     refused: u64,
 }
 
-fn step(rt: &LibcRuntime, station: &mut Station, formula: &[u8], tally: &mut Tally, text: &str) -> Result<(), Stop> {
+fn step(
+    rt: &LibcRuntime,
+    station: &mut Station,
+    formula: &[u8],
+    tally: &mut Tally,
+    text: &str,
+) -> Result<(), Stop> {
     tally.windows = tally.windows.wrapping_add(1);
     let number = tally.windows;
     let counts = match counts_of(rt.alloc(), text) {
@@ -71,18 +84,46 @@ fn step(rt: &LibcRuntime, station: &mut Station, formula: &[u8], tally: &mut Tal
     Ok(())
 }
 
-pub fn windows(rt: &LibcRuntime, formula: Option<String>, kind: Option<String>) -> Result<(), Stop> {
+pub fn windows(
+    rt: &LibcRuntime,
+    formula: Option<String>,
+    kind: Option<String>,
+) -> Result<(), Stop> {
     let Some(file) = formula else {
-        return Err(slipped(rt, 0, Slip { word: "windows", problem: Problem::Missing }));
+        return Err(slipped(
+            rt,
+            0,
+            Slip {
+                word: "windows",
+                problem: Problem::Missing,
+            },
+        ));
     };
     let kind = kind_of(rt, &kind)?;
     let bytes = formula_of(rt, file.as_str())?;
     let mut station = Station::blank(kind);
-    let mut tally = Tally { windows: 0, reported: 0, refused: 0 };
+    let mut tally = Tally {
+        windows: 0,
+        reported: 0,
+        refused: 0,
+    };
     for text in BufReader::new(rt.stdin()).lines(rt.alloc()) {
-        step(rt, &mut station, bytes.as_slice(), &mut tally, text?.as_str())?;
+        step(
+            rt,
+            &mut station,
+            bytes.as_slice(),
+            &mut tally,
+            text?.as_str(),
+        )?;
     }
-    let Tally { windows, reported, refused } = tally;
-    println!(rt, "windows {windows}, reported {reported}, refused {refused}")?;
+    let Tally {
+        windows,
+        reported,
+        refused,
+    } = tally;
+    println!(
+        rt,
+        "windows {windows}, reported {reported}, refused {refused}"
+    )?;
     Ok(())
 }

@@ -53,18 +53,21 @@ module _ {K : Type 0} (g : Grid K) (l : Lawful g) where
 
   found-down : (x : Frac) → Inside m x → Down m x (g .down (floor (g .unit) x))
   unfolding negF
-  found-down x i = subst (Down m x) (sym (n .found))
-      ( i
-      , under-floor x (n .mark) (n .low)
-      , λ a h. record { cross = ≤ℤ-times (g .size a) (g .size (n .mark)) (g .unit) (n .most a (f .greatest (g .size a) h)) } )
+  found-down x i = subst (Down m x) (sym (n .found)) (
+    i,
+    under-floor x (n .mark) (n .low),
+    λ a h. record { cross = ≤ℤ-times (g .size a) (g .size (n .mark)) (g .unit) (n .most a (f .greatest (g .size a) h)) },
+  )
     where
       k : ℤ
       k = floor (g .unit) x
+
       f : Floor (g .unit) (g .some-unit) x k
       f = floor-is (g .unit) (g .some-unit) x
+
       n : Nearest g k
       n = l .nearest k (f .greatest (negℤ (g .size (g .top))) (i .0))
-        (≤ℤ-cancel k (g .size (g .top)) (g .unit) (g .some-unit) (≤F-trans (f .low) (i .1) .cross))
+          (≤ℤ-cancel k (g .size (g .top)) (g .unit) (g .some-unit) (≤F-trans (f .low) (i .1) .cross))
 
   down-at : (x : Frac) (b : Bool) → inside? g x ≡ b → Down m x (cond b (g .down (floor (g .unit) x)) None)
   down-at x true e = found-down x (inside-yes x e)
@@ -83,10 +86,11 @@ module _ {K : Type 0} (g : Grid K) (l : Lawful g) where
 
   mirror : (x : Frac) (r : Option K) → Down m (negF x) r → Up m x (r >>= (λ a. Some (g .minus a)))
   mirror x None p = λ i. p (inside-neg i)
-  mirror x (Some d) p =
-    ( neg-inside (p .0)
-    , ≤F-trans (neg-right (p .1)) (≤F-of-≈ (≈-sym (minus-value d)))
-    , λ a h. ≤F-trans (≤F-of-≈ (minus-value d)) (neg-left (≤F-trans (≤F-of-≈ (≈-sym (minus-value a))) (p .2 (g .minus a) (≤F-trans (≤F-of-≈ (minus-value a)) (neg-mono h))))) )
+  mirror x (Some d) p = (
+    neg-inside (p .0),
+    ≤F-trans (neg-right (p .1)) (≤F-of-≈ (≈-sym (minus-value d))),
+    λ a h. ≤F-trans (≤F-of-≈ (minus-value d)) (neg-left (≤F-trans (≤F-of-≈ (≈-sym (minus-value a))) (p .2 (g .minus a) (≤F-trans (≤F-of-≈ (minus-value a)) (neg-mono h))))),
+  )
 
   grid-up : (x : Frac) → Up m x (grid-above g x)
   unfolding grid-above
@@ -102,7 +106,8 @@ module _ {K : Type 0} (g : Grid K) (l : Lawful g) where
     greatest = λ a. record { cross = ≤ℤ-times (g .size a) (g .size (g .top)) (g .unit) (l .greatest a) };
     bounded = record { cross = let b = l .bounded in omega (arith, ints) };
     down = grid-down;
-    up = grid-up }
+    up = grid-up;
+  }
 
   -- ---- for code: n units over d
   module _ (n : ℤ) (d : ℕ) (h : 0 < d) where
@@ -127,10 +132,11 @@ module _ {K : Type 0} (g : Grid K) (l : Lawful g) where
 
     pub ratio-some : (k : K) → (g .size k *ℤ pos d) ≤ℤ n → n ≤ℤ (g .size (g .top) *ℤ pos d) → ((a : K) → (g .size a *ℤ pos d) ≤ℤ n → g .size a ≤ℤ g .size k) → Some k ≡ grid-below g (units-over g n d h)
     unfolding units-over negF
-    ratio-some k p q r = is-below (grid-model g) grid-rules (units-over g n d h) (Some k)
-      ( (record { cross = under _ (≤ℤ-trans (≤ℤ-times (negℤ (g .size (g .top))) (g .size k) d (low-end k)) p) }, record { cross = over _ q })
-      , record { cross = under _ p }
-      , λ a e. record { cross = ≤ℤ-times (g .size a) (g .size k) (g .unit) (r a (under-back _ (e .cross))) } )
+    ratio-some k p q r = is-below (grid-model g) grid-rules (units-over g n d h) (Some k) (
+      (record { cross = under _ (≤ℤ-trans (≤ℤ-times (negℤ (g .size (g .top))) (g .size k) d (low-end k)) p) }, record { cross = over _ q }),
+      record { cross = under _ p },
+      λ a e. record { cross = ≤ℤ-times (g .size a) (g .size k) (g .unit) (r a (under-back _ (e .cross))) },
+    )
 
     pub ratio-none-over : (g .size (g .top) *ℤ pos d) <ℤ n → None ≡ grid-below g (units-over g n d h)
     unfolding units-over

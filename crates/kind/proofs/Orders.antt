@@ -51,7 +51,8 @@ module _ {K : Type 0} (m : Model K) where
       one-below = is-below;
       one-above = is-above;
       below-rises = λ x y a b h p q. let s = subst (Down m x) p (r .down x) in let t = subst (Down m y) q (r .down y) in t .2 a (≤F-trans (s .1) h);
-      above-rises = λ x y a b h p q. let s = subst (Up m x) p (r .up x) in let t = subst (Up m y) q (r .up y) in s .2 b (≤F-trans h (t .1)) }
+      above-rises = λ x y a b h p q. let s = subst (Up m x) p (r .up x) in let t = subst (Up m y) q (r .up y) in s .2 b (≤F-trans h (t .1));
+    }
 
     -- a mark lies from −T to T
     pub mark-inside : (a : K) → Inside m (m .value a)
@@ -60,5 +61,5 @@ module _ {K : Type 0} (m : Model K) where
     -- the negative of the negative of a mark is the mark
     pub opposite-twice : (a : K) → m .opposite (m .opposite a) ≡ a
     opposite-twice a = r .distinct _ _ (≤F-antisym
-      (≤F-trans (≤F-of-≈ (r .opposite-is _)) (neg-left (≤F-of-≈ (≈-sym (r .opposite-is a)))))
-      (≤F-trans (≤F-of-≈ (≈-sym (neg-neg _))) (≤F-trans (neg-mono (≤F-of-≈ (r .opposite-is a))) (≤F-of-≈ (≈-sym (r .opposite-is _))))))
+        (≤F-trans (≤F-of-≈ (r .opposite-is _)) (neg-left (≤F-of-≈ (≈-sym (r .opposite-is a)))))
+        (≤F-trans (≤F-of-≈ (≈-sym (neg-neg _))) (≤F-trans (neg-mono (≤F-of-≈ (r .opposite-is a))) (≤F-of-≈ (≈-sym (r .opposite-is _))))))

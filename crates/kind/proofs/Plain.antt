@@ -28,4 +28,4 @@ plain-wide a h = omega (arith, ints)
 
 pub plain-product : (a b : ℤ) → natAbs a < 2 ^ 31 → natAbs b < 2 ^ 31 → toZ w64 (ofZ w64 (toZ w64 (ofZ w64 (toZ w32 (ofZ w32 a))) *ℤ toZ w64 (ofZ w64 (toZ w32 (ofZ w32 b))))) ≡ a *ℤ b
 plain-product a b p q = let k = product-bound a b (2 ^ 31 - 1) (2 ^ 31 - 1) (omega arith) (omega arith) in
-  rw (plain-wide a p, plain-wide b q) (toZ-ofZ w64 (a *ℤ b) (omega (arith, ints)))
+    rw (plain-wide a p, plain-wide b q) (toZ-ofZ w64 (a *ℤ b) (omega (arith, ints)))

@@ -43,11 +43,11 @@ large (b ∷ bs) e h =
     ⊎-elim
     (λ lt. rw (size-last b bs lt, value-last b bs lt) (let p = rw (last-last b bs lt) at h in omega arith))
     (λ le.
-        let e′ = rw (ends-next b bs le) at e in
-        let h′ = rw (last-next b bs le) at h in
-        let ih = large bs e′ h′ in
-        let p : 2 ^ (7 * size bs + 7) ≡ 2 ^ (7 * size bs) * 128 = pow-add 2 (7 * size bs) 7 in
-        rw (size-next b bs le, value-next b bs le, mul-add 7 (size bs) 1, p) (omega arith))
+    let e′ = rw (ends-next b bs le) at e in
+    let h′ = rw (last-next b bs le) at h in
+    let ih = large bs e′ h′ in
+    let p : 2 ^ (7 * size bs + 7) ≡ 2 ^ (7 * size bs) * 128 = pow-add 2 (7 * size bs) 7 in
+    rw (size-next b bs le, value-next b bs le, mul-add 7 (size bs) 1, p) (omega arith))
     (cases-lt b 128)
 
 -- a group is joined above the bits of v

@@ -44,16 +44,16 @@ more whole rest k v s b br r h hs =
     let s7 : s ≡ 7 * k = r .shift-is (omega arith) in
     let pow : 2 ^ (s + 7) ≡ 2 ^ s * 128 = pow-add 2 s 7 in
     let lv : v < 2 ^ s = r .low (omega arith) in
-    record
-      { ends-same = r .ends-same ∙ ends-next b rest h
-      ; size-more = r .size-more ∙ omega (arith, size-next b rest h)
-      ; last-same = r .last-same ∙ last-next b rest h
-      ; shift-is = λ q. omega arith
-      ; shift-top = λ q. omega arith
-      ; breach-is = r .breach-is ∙ (le-ltb 5 k (omega arith) ∙ sym (le-ltb 5 (k + 1) (omega arith)))
-      ; low = λ _. let m : 2 ^ s * (b % 128) ≤ 2 ^ s * 127 = mul-le-mul-left (2 ^ s) (omega (arith, mod-below b 128 (omega arith))) in rw pow (omega arith)
-      ; sum = λ _. rw pow (r .sum (omega arith) ∙ rw (value-next b rest h, mul-add (2 ^ s) (b % 128) (128 * value rest), ← mul-assoc (2 ^ s) 128 (value rest)) (omega arith))
-      }
+    record {
+      ends-same = r .ends-same ∙ ends-next b rest h;
+      size-more = r .size-more ∙ omega (arith, size-next b rest h);
+      last-same = r .last-same ∙ last-next b rest h;
+      shift-is = λ q. omega arith;
+      shift-top = λ q. omega arith;
+      breach-is = r .breach-is ∙ (le-ltb 5 k (omega arith) ∙ sym (le-ltb 5 (k + 1) (omega arith)));
+      low = λ _. let m : 2 ^ s * (b % 128) ≤ 2 ^ s * 127 = mul-le-mul-left (2 ^ s) (omega (arith, mod-below b 128 (omega arith))) in rw pow (omega arith);
+      sum = λ _. rw pow (r .sum (omega arith) ∙ rw (value-next b rest h, mul-add (2 ^ s) (b % 128) (128 * value rest), ← mul-assoc (2 ^ s) 128 (value rest)) (omega arith));
+    }
 
 pub more-top :
     (whole rest : List ℕ) (k v s b : ℕ) (br : Bool)
@@ -61,16 +61,16 @@ pub more-top :
     → Read whole rest (k + 1) v s true
 more-top whole rest k v s b br r h hs =
     let k5 : 5 ≤ k = ⊎-elim (λ lt. let e = r .shift-is (omega arith) in omega arith) (λ le. le) (cases-lt k 5) in
-    record
-      { ends-same = r .ends-same ∙ ends-next b rest h
-      ; size-more = r .size-more ∙ omega (arith, size-next b rest h)
-      ; last-same = r .last-same ∙ last-next b rest h
-      ; shift-is = λ q. omega arith
-      ; shift-top = λ q. r .shift-top k5
-      ; breach-is = sym (lt-ltb 5 (k + 1) (omega arith))
-      ; low = λ q. omega arith
-      ; sum = λ q. omega arith
-      }
+    record {
+      ends-same = r .ends-same ∙ ends-next b rest h;
+      size-more = r .size-more ∙ omega (arith, size-next b rest h);
+      last-same = r .last-same ∙ last-next b rest h;
+      shift-is = λ q. omega arith;
+      shift-top = λ q. r .shift-top k5;
+      breach-is = sym (lt-ltb 5 (k + 1) (omega arith));
+      low = λ q. omega arith;
+      sum = λ q. omega arith;
+    }
 
 pub early : (whole : List ℕ) (k v s : ℕ) (br : Bool) → Read whole [] k v s br → decode whole ≡ Err Early
 early whole k v s br r = rw (r .ends-same)
@@ -110,10 +110,10 @@ accepted whole rest k v s b br r h hs small form =
     let g : last-group whole ≡ b = r .last-same ∙ last-last b rest h in
     let m : leb (value whole) 2147483647 ≡ true = le-leb _ _ (omega (arith, f .0)) in
     let short : shortest whole ≡ true =
-        ⊎-elim
-        (λ lt. let s0 = form (omega arith) in short-one whole (omega (arith, f .2)))
-        (λ le. short-last whole (omega arith))
-        (cases-lt b 1) in
+    ⊎-elim
+    (λ lt. let s0 = form (omega arith) in short-one whole (omega (arith, f .2)))
+    (λ le. short-last whole (omega arith))
+    (cases-lt b 1) in
     (rw (e, short, m, f .0), z)
 
 pub refused-large :
@@ -158,9 +158,9 @@ module _ (whole rest : List ℕ) (k v s b : ℕ) (br : Bool) (v′ s′ : ℕ) (
   taken h e small form =
       ⊎-elim
       (λ p.
-          let same : s′ ≡ s = p .3 ∙ rw (lt-ltb b 128 h) in
-          let q = accepted whole rest k v s b br r h (p .0) (omega (arith, p .1)) (λ z. sym same ∙ form z) in
-          (rw (p .1) (sym (q .0)), q .1))
+      let same : s′ ≡ s = p .3 ∙ rw (lt-ltb b 128 h) in
+      let q = accepted whole rest k v s b br r h (p .0) (omega (arith, p .1)) (λ z. sym same ∙ form z) in
+      (rw (p .1) (sym (q .0)), q .1))
       (λ p. absurd (both-ways br′ e (p .2)))
       t
 
@@ -168,11 +168,11 @@ module _ (whole rest : List ℕ) (k v s b : ℕ) (br : Bool) (v′ s′ : ℕ) (
   turned-down h why =
       ⊎-elim
       (λ p.
-          let same : s′ ≡ s = p .3 ∙ rw (lt-ltb b 128 h) in
-          ⊎-elim
-          (λ e. absurd (both-ways br (last-value whole rest k v s b br r h (p .0) .1) (sym (p .2) ∙ e)))
-          (λ o. ⊎-elim (λ big. sym (refused-large whole rest k v s b br r h (p .0) (omega (arith, p .1)))) (λ z. sym (refused-long whole rest k v s b br r h (p .0) (z .0) (omega (arith, z .1)))) o)
-          why)
+      let same : s′ ≡ s = p .3 ∙ rw (lt-ltb b 128 h) in
+      ⊎-elim
+      (λ e. absurd (both-ways br (last-value whole rest k v s b br r h (p .0) .1) (sym (p .2) ∙ e)))
+      (λ o. ⊎-elim (λ big. sym (refused-large whole rest k v s b br r h (p .0) (omega (arith, p .1)))) (λ z. sym (refused-long whole rest k v s b br r h (p .0) (z .0) (omega (arith, z .1)))) o)
+      why)
       (λ p. sym (refused-top whole rest k v s b br r h (p .0)))
       t
 

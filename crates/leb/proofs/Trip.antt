@@ -38,23 +38,23 @@ wrote zero n rest h = wrote-last n rest h
 wrote (suc k) n rest h =
     ⊎-elim
     (λ lt.
-        let w = wrote-last n rest lt in
-        record { ended = rw (one-group (suc k) n lt) (w .ended); worth = rw (one-group (suc k) n lt) (w .worth); long = rw (one-group (suc k) n lt) (w .long); tight = λ p. rw (one-group (suc k) n lt) (w .tight p); one = λ p. rw (one-group (suc k) n lt) (w .one p) })
+    let w = wrote-last n rest lt in
+    record { ended = rw (one-group (suc k) n lt) (w .ended); worth = rw (one-group (suc k) n lt) (w .worth); long = rw (one-group (suc k) n lt) (w .long); tight = λ p. rw (one-group (suc k) n lt) (w .tight p); one = λ p. rw (one-group (suc k) n lt) (w .one p) })
     (λ le.
-        let b = n % 128 + 128 in
-        let hb : 128 ≤ b = omega arith in
-        let pow : 2 ^ (7 * suc k + 7) ≡ 2 ^ (7 * k + 7) * 128 = ap (λ (x : ℕ). 2 ^ x) (omega arith) ∙ pow-add 2 (7 * k + 7) 7 in
-        let lt : n / 128 < 2 ^ (7 * k + 7) = div-below n 128 (2 ^ (7 * k + 7)) (omega arith) (omega (arith, h, pow)) in
-        let w = wrote k (n / 128) rest lt in
-        let rest′ = groups k (n / 128) ++ rest in
-        let g : groups (suc k) n ≡ b ∷ groups k (n / 128) = rw (le-ltb n 128 le) in
-        record
-          { ended = rw g (ends-next b rest′ hb ∙ w .ended)
-          ; worth = rw g (value-next b rest′ hb ∙ omega (arith, w .worth))
-          ; long = rw g (size-next b rest′ hb ∙ omega (arith, w .long))
-          ; tight = λ p. rw (g, last-next b rest′ hb) (w .tight (le-div 1 n 128 (omega arith) (omega arith)))
-          ; one = λ p. absurd (omega arith)
-          })
+    let b = n % 128 + 128 in
+    let hb : 128 ≤ b = omega arith in
+    let pow : 2 ^ (7 * suc k + 7) ≡ 2 ^ (7 * k + 7) * 128 = ap (λ (x : ℕ). 2 ^ x) (omega arith) ∙ pow-add 2 (7 * k + 7) 7 in
+    let lt : n / 128 < 2 ^ (7 * k + 7) = div-below n 128 (2 ^ (7 * k + 7)) (omega arith) (omega (arith, h, pow)) in
+    let w = wrote k (n / 128) rest lt in
+    let rest′ = groups k (n / 128) ++ rest in
+    let g : groups (suc k) n ≡ b ∷ groups k (n / 128) = rw (le-ltb n 128 le) in
+    record {
+      ended = rw g (ends-next b rest′ hb ∙ w .ended);
+      worth = rw g (value-next b rest′ hb ∙ omega (arith, w .worth));
+      long = rw g (size-next b rest′ hb ∙ omega (arith, w .long));
+      tight = λ p. rw (g, last-next b rest′ hb) (w .tight (le-div 1 n 128 (omega arith) (omega arith)));
+      one = λ p. absurd (omega arith);
+    })
     (cases-lt n 128)
 
 there : (n : ℕ) (rest : List ℕ) → n ≤ 2147483647 → (decode (encode n ++ rest) ≡ Ok n) × (size (encode n ++ rest) ≡ length (encode n))
@@ -88,14 +88,14 @@ back (suc k) (b ∷ bs) t e f h =
     ⊎-elim
     (λ lt. rw (value-last b bs lt, size-last b bs lt, one-group (suc k) b lt))
     (λ le.
-        let l = later b bs le e f in
-        let v = b % 128 + 128 * value bs in
-        let pow : 2 ^ (7 * suc k + 7) ≡ 2 ^ (7 * k + 7) * 128 = ap (λ (x : ℕ). 2 ^ x) (omega arith) ∙ pow-add 2 (7 * k + 7) 7 in
-        let g : groups (suc k) v ≡ (v % 128 + 128) ∷ groups k (v / 128) = rw (le-ltb v 128 (omega (arith, l .2))) in
-        let q : v / 128 ≡ value bs = omega arith in
-        let m : v % 128 + 128 ≡ b = omega (arith, t .0) in
-        let ih = back k bs (t .1) (l .0) (inr (l .1)) (omega (arith, h, value-next b bs le, pow)) in
-        rw (value-next b bs le, size-next b bs le, add-one (size bs)) (g ∙ rw (m, q, ih)))
+    let l = later b bs le e f in
+    let v = b % 128 + 128 * value bs in
+    let pow : 2 ^ (7 * suc k + 7) ≡ 2 ^ (7 * k + 7) * 128 = ap (λ (x : ℕ). 2 ^ x) (omega arith) ∙ pow-add 2 (7 * k + 7) 7 in
+    let g : groups (suc k) v ≡ (v % 128 + 128) ∷ groups k (v / 128) = rw (le-ltb v 128 (omega (arith, l .2))) in
+    let q : v / 128 ≡ value bs = omega arith in
+    let m : v % 128 + 128 ≡ b = omega (arith, t .0) in
+    let ih = back k bs (t .1) (l .0) (inr (l .1)) (omega (arith, h, value-next b bs le, pow)) in
+    rw (value-next b bs le, size-next b bs le, add-one (size bs)) (g ∙ rw (m, q, ih)))
     (cases-lt b 128)
 
 cond-split : (x y : Bool) → cond x y false ≡ true → (x ≡ true) × (y ≡ true)
@@ -106,12 +106,13 @@ short-parts m n h = ⊎-elim (λ le. inl (omega arith)) (λ gt. inr (ltb-true 0 
 
 well-formed-split : (bs : List ℕ) (n : ℕ) → decode bs ≡ Ok n → (ends bs ≡ true) × (well-formed bs ≡ true) × (value bs ≡ n)
 well-formed-split bs n h =
-    elim (ends bs) as (λ e. cond e (cond (well-formed bs) (Ok (value bs)) (Err Form)) (Err Early) ≡ Ok n → (e ≡ true) × (well-formed bs ≡ true) × (value bs ≡ n))
-    [ true ↦ λ p.
-        elim (well-formed bs) as (λ w. cond w (Ok (value bs)) (Err Form) ≡ Ok n → (true ≡ true) × (w ≡ true) × (value bs ≡ n))
-        [ true ↦ λ q. (refl, refl, cc) | false ↦ λ q. let z : _≡_ {A = ℕ} 0 1 = cc in absurd (omega arith) ]
-        p
-    | false ↦ λ p. let z : _≡_ {A = ℕ} 0 1 = cc in absurd (omega arith) ]
+    elim (ends bs) as (λ e. cond e (cond (well-formed bs) (Ok (value bs)) (Err Form)) (Err Early) ≡ Ok n → (e ≡ true) × (well-formed bs ≡ true) × (value bs ≡ n)) [
+      | true ↦ λ p.
+          elim (well-formed bs) as (λ w. cond w (Ok (value bs)) (Err Form) ≡ Ok n → (true ≡ true) × (w ≡ true) × (value bs ≡ n))
+          [ true ↦ λ q. (refl, refl, cc) | false ↦ λ q. let z : _≡_ {A = ℕ} 0 1 = cc in absurd (omega arith) ]
+          p
+      | false ↦ λ p. let z : _≡_ {A = ℕ} 0 1 = cc in absurd (omega arith)
+    ]
     h
 
 again : (n : ℕ) (bs : List ℕ) → Bytes bs → decode bs ≡ Ok n → encode n ≡ take (size bs) bs

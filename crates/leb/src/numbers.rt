@@ -33,15 +33,31 @@ impl Groups {
         requires { ⌜ (self .shift < 35 → self .value < 2 ^ self .shift) ⌝ }
         ensures { λ r. ⌜ Taken (self .value) (self .shift) (self .breach) byte (r .value) (r .shift) (r .breach) ⌝ }
     {
-        let Groups { value, shift, breach } = self;
+        let Groups {
+            value,
+            shift,
+            breach,
+        } = self;
         if shift >= 35 {
-            return Groups { value, shift, breach: true };
+            return Groups {
+                value,
+                shift,
+                breach: true,
+            };
         }
         let value = joined(value, shift, byte);
         if byte < 128 {
-            return Groups { value, shift, breach };
+            return Groups {
+                value,
+                shift,
+                breach,
+            };
         }
-        Groups { value, shift: shift + 7, breach }
+        Groups {
+            value,
+            shift: shift + 7,
+            breach,
+        }
     }
 }
 
@@ -50,7 +66,11 @@ fn number_steps(bytes: &[u8], place: &mut Place) -> Result<u32, Cause>
     ensures place { λ r. ⌜ Cases r (λ _. now (place .exit) .at ≡ now (place .entry) .at + size (drop (now (place .entry) .at) (now (bytes .entry)))) (λ _. now (place .exit) ≡ now (place .entry)) ⌝ }
 {
     let mut at = place.at;
-    let mut groups = Groups { value: 0, shift: 0, breach: false };
+    let mut groups = Groups {
+        value: 0,
+        shift: 0,
+        breach: false,
+    };
     while at < bytes.len() {
         let byte = bytes[at];
         at += 1;

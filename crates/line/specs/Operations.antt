@@ -74,7 +74,7 @@ third (Branch s q r) = r
 -- the line with these numbers
 abbrev pub line-of : ℕ → ℕ → ℕ → ℕ → Line
 line-of op a b c =
-  cond (eqb op 0) (Channel a) (cond (eqb op 1) (Constant (unfolded a))
-  (cond (eqb op 2) (Sum a b) (cond (eqb op 3) (Difference a b) (cond (eqb op 4) (Product a b) (cond (eqb op 5) (Quotient a b)
-  (cond (eqb op 6) (Square a) (cond (eqb op 7) (Magnitude a)
-  (cond (eqb op 8) (Greater a b) (cond (eqb op 9) (Lesser a b) (Branch a b c))))))))))
+    cond (eqb op 0) (Channel a) (cond (eqb op 1) (Constant (unfolded a))
+    (cond (eqb op 2) (Sum a b) (cond (eqb op 3) (Difference a b) (cond (eqb op 4) (Product a b) (cond (eqb op 5) (Quotient a b)
+    (cond (eqb op 6) (Square a) (cond (eqb op 7) (Magnitude a)
+    (cond (eqb op 8) (Greater a b) (cond (eqb op 9) (Lesser a b) (Branch a b c))))))))))

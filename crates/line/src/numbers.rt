@@ -20,13 +20,21 @@ pub fn arity(operation: u32) -> u32
 fn fold(n: i64) -> u64
     ensures { λ r. ⌜ r ≡ folded n ⌝ }
 {
-    if n < 0 { (-1 - n) as u64 * 2 + 1 } else { n as u64 * 2 }
+    if n < 0 {
+        (-1 - n) as u64 * 2 + 1
+    } else {
+        n as u64 * 2
+    }
 }
 
 fn unfold(w: u32) -> i64
     ensures { λ r. ⌜ r ≡ unfolded w ⌝ }
 {
-    if w % 2 == 0 { (w / 2) as i64 } else { -1 - (w / 2) as i64 }
+    if w % 2 == 0 {
+        (w / 2) as i64
+    } else {
+        -1 - (w / 2) as i64
+    }
 }
 
 // The line with these numbers, for an operation of at most 10.

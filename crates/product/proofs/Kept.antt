@@ -26,19 +26,22 @@ module _ {K : Type 0} (m : Model K) (rules : Rules m) (place : ℕ) (p q : Recor
     where
       P : Option (Slopes K) → Type 0
       P = Sloped? m h (u *F v) (u0 *F v0)
+
       times : {s t : Span K} {a b : Frac} (w : Span K) → spans.product m s t ≡ Some w → Held m s a → Held m t b → Held m w (a *F b)
       times w e i j = product-in m rules _ _ w _ _ e i j
+
       plus : {s t : Span K} {a b : Frac} (w : Span K) → spans.sum m s t ≡ Some w → Held m s a → Held m t b → Held m w (a +F b)
       plus w e i j = sum-in m rules _ _ w _ _ e i j
+
       slopes : P (product-slopes m p q)
       slopes =
-        step P _ _ tt (λ s es. step P _ _ tt (λ t et.
-        step P _ _ tt (λ a1 ea1. step P _ _ tt (λ a2 ea2. step P _ _ tt (λ a ea.
-        step P _ _ tt (λ b1 eb1. step P _ _ tt (λ b2 eb2. step P _ _ tt (λ b eb.
-        step P _ _ tt (λ c1 ec1. step P _ _ tt (λ c2 ec2. step P _ _ tt (λ c12 ec12. step P _ _ tt (λ c3 ec3. step P _ _ tt (λ c ec.
+          step P _ _ tt (λ s es. step P _ _ tt (λ t et.
+          step P _ _ tt (λ a1 ea1. step P _ _ tt (λ a2 ea2. step P _ _ tt (λ a ea.
+          step P _ _ tt (λ b1 eb1. step P _ _ tt (λ b2 eb2. step P _ _ tt (λ b eb.
+          step P _ _ tt (λ c1 ec1. step P _ _ tt (λ c2 ec2. step P _ _ tt (λ c12 ec12. step P _ _ tt (λ c3 ec3. step P _ _ tt (λ c ec.
           let S = sloped m p h u u0 tp s es in let T = sloped m q h v v0 tq t et in
           slopes-of m a b c
-            (plus a ea (times a1 ea1 (S .a-in) (tq .centre)) (times a2 ea2 (tp .here) (T .a-in)))
-            (plus b eb (times b1 eb1 (S .b-in) (tq .centre)) (times b2 eb2 (tp .centre) (T .b-in)))
-            (plus c ec (plus c12 ec12 (times c1 ec1 (S .c-in) (tq .centre)) (times c2 ec2 (tp .here) (T .c-in))) (times c3 ec3 (S .a-in) (T .b-in)))
-            (product-slope (S .slope) (T .slope)))))))))))))))
+          (plus a ea (times a1 ea1 (S .a-in) (tq .centre)) (times a2 ea2 (tp .here) (T .a-in)))
+          (plus b eb (times b1 eb1 (S .b-in) (tq .centre)) (times b2 eb2 (tp .centre) (T .b-in)))
+          (plus c ec (plus c12 ec12 (times c1 ec1 (S .c-in) (tq .centre)) (times c2 ec2 (tp .here) (T .c-in))) (times c3 ec3 (S .a-in) (T .b-in)))
+          (product-slope (S .slope) (T .slope)))))))))))))))

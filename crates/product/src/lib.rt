@@ -55,10 +55,18 @@ fn product_slopes<K: NumberKind>(u: Span<K>, u0: Span<K>, p: &Record<K>, q: &Rec
     let Some(c) = c12.sum(c3) else {
         return Record::flat(u, u0);
     };
-    Record { u, u0, slopes: Some(Slopes { a, b, c }) }
+    Record {
+        u,
+        u0,
+        slopes: Some(Slopes { a, b, c }),
+    }
 }
 
-fn product_steps<K: NumberKind>(p: &Record<K>, q: &Record<K>, place: usize) -> Result<Record<K>, Fault>
+fn product_steps<K: NumberKind>(
+    p: &Record<K>,
+    q: &Record<K>,
+    place: usize,
+) -> Result<Record<K>, Fault>
     ensures { λ r. ⌜ r ≡ given place (rules.product (K·NumberKind .model) (now (p .entry)) (now (q .entry))) ⌝ }
 {
     let u = present(p.u.product(q.u), place)?;
@@ -67,7 +75,11 @@ fn product_steps<K: NumberKind>(p: &Record<K>, q: &Record<K>, place: usize) -> R
 }
 
 // The record of a product.
-pub fn product<K: NumberKind>(p: &Record<K>, q: &Record<K>, place: usize) -> Result<Record<K>, Fault>
+pub fn product<K: NumberKind>(
+    p: &Record<K>,
+    q: &Record<K>,
+    place: usize,
+) -> Result<Record<K>, Fault>
     ensures value { λ r. ⌜ r ≡ given place (rules.product (K·NumberKind .model) (now (p .entry)) (now (q .entry))) ⌝ }
     ensures truth { λ r. ⌜ Kept (K·NumberKind .model) _*F_ (spans.product (K·NumberKind .model) (now (p .entry) .u) (now (q .entry) .u)) (now (p .entry)) (now (q .entry)) r ⌝ }
 {

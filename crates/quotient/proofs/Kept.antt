@@ -33,18 +33,22 @@ module _ {K : Type 0} (m : Model K) (rules : Rules m) (place : ℕ) (p q : Recor
     where
       P : Option (Slopes K) → Type 0
       P = Sloped? m h w w0
+
       times : {s t : Span K} {a b : Frac} (x : Span K) → spans.product m s t ≡ Some x → Held m s a → Held m t b → Held m x (a *F b)
       times x e i j = product-in m rules _ _ x _ _ e i j
+
       minus : {s t : Span K} {a b : Frac} (x : Span K) → spans.difference m s t ≡ Some x → Held m s a → Held m t b → Held m x (a -F b)
       minus x e i j = difference-in m rules _ _ x _ _ e i j
+
       over : {s t : Span K} {a b y : Frac} (x : Span K) → spans.quotient m s t ≡ Some x → Held m s a → Held m t b → (y *F b) ≈ a → Held m x y
       over x e i j k = quotient-in m rules _ _ x _ _ _ e i j k
+
       slopes : (z z0 : Span K) → spans.quotient m (p .u) (q .u) ≡ Some z → spans.quotient m (p .u0) (q .u0) ≡ Some z0 → P (quotient-slopes m p q z0)
       slopes z z0 ez ez0 =
-        step P _ _ tt (λ s es. step P _ _ tt (λ t et.
-        step P _ _ tt (λ a1 ea1. step P _ _ tt (λ a2 ea2. step P _ _ tt (λ a ea.
-        step P _ _ tt (λ b1 eb1. step P _ _ tt (λ b2 eb2. step P _ _ tt (λ b eb.
-        step P _ _ tt (λ c1 ec1. step P _ _ tt (λ c2 ec2. step P _ _ tt (λ c3 ec3. step P _ _ tt (λ c4 ec4. step P _ _ tt (λ c ec.
+          step P _ _ tt (λ s es. step P _ _ tt (λ t et.
+          step P _ _ tt (λ a1 ea1. step P _ _ tt (λ a2 ea2. step P _ _ tt (λ a ea.
+          step P _ _ tt (λ b1 eb1. step P _ _ tt (λ b2 eb2. step P _ _ tt (λ b eb.
+          step P _ _ tt (λ c1 ec1. step P _ _ tt (λ c2 ec2. step P _ _ tt (λ c3 ec3. step P _ _ tt (λ c4 ec4. step P _ _ tt (λ c ec.
           let S = sloped m p h u u0 tp s es in let T = sloped m q h v v0 tq t et in
           let nv = quotient-away m rules _ _ z u v ez (tp .here) (tq .here) in
           let nv0 = quotient-away m rules _ _ z0 u0 v0 ez0 (tp .centre) (tq .centre) in
@@ -55,10 +59,10 @@ module _ {K : Type 0} (m : Model K) (rules : Rules m) (place : ℕ) (p q : Recor
           let dc = divided (S .c -F w0 *F T .c -F yb *F T .a) v nv in
           let ib : Held m b yb = over b eb (minus b2 eb2 (S .b-in) (times b1 eb1 i0 (T .b-in))) (tq .centre) db in
           slopes-of m a b c
-            (over a ea (minus a2 ea2 (S .a-in) (times a1 ea1 i0 (T .a-in))) (tq .here) da)
-            ib
-            (over c ec (minus c4 ec4 (minus c2 ec2 (S .c-in) (times c1 ec1 i0 (T .c-in))) (times c3 ec3 ib (T .a-in))) (tq .here) dc)
-            (quotient-slope nv ew ew0 (S .slope) (T .slope) da db dc))))))))))))))
+          (over a ea (minus a2 ea2 (S .a-in) (times a1 ea1 i0 (T .a-in))) (tq .here) da)
+          ib
+          (over c ec (minus c4 ec4 (minus c2 ec2 (S .c-in) (times c1 ec1 i0 (T .c-in))) (times c3 ec3 ib (T .a-in))) (tq .here) dc)
+          (quotient-slope nv ew ew0 (S .slope) (T .slope) da db dc))))))))))))))
 
   -- where the divisor holds 0 the quotient is absent
   absent : (b b′ : Bool) (x y : Option (Span K)) → b && b′ ≡ true → cond b (cond b′ None x) y ≡ None

@@ -13,7 +13,12 @@ use slope::present;
 use span::Span;
 
 // W0 = U0 / V0; A = (Au − W0 × Av) / V; B = (Bu − W0 × Bv) / V0; C = (Cu − W0 × Cv − B × Av) / V
-fn quotient_slopes<K: NumberKind>(u: Span<K>, u0: Span<K>, p: &Record<K>, q: &Record<K>) -> Record<K>
+fn quotient_slopes<K: NumberKind>(
+    u: Span<K>,
+    u0: Span<K>,
+    p: &Record<K>,
+    q: &Record<K>,
+) -> Record<K>
     ensures { λ r. ⌜ r ≡ rec u u0 (rules.quotient-slopes (K·NumberKind .model) (now (p .entry)) (now (q .entry)) u0) ⌝ }
 {
     let Some(s) = &p.slopes else {
@@ -55,15 +60,26 @@ fn quotient_slopes<K: NumberKind>(u: Span<K>, u0: Span<K>, p: &Record<K>, q: &Re
     let Some(c) = c4.quotient(q.u) else {
         return Record::flat(u, u0);
     };
-    Record { u, u0, slopes: Some(Slopes { a, b, c }) }
+    Record {
+        u,
+        u0,
+        slopes: Some(Slopes { a, b, c }),
+    }
 }
 
 // Refused first where the divisor's span over the box holds 0.
-fn quotient_steps<K: NumberKind>(p: &Record<K>, q: &Record<K>, place: usize) -> Result<Record<K>, Fault>
+fn quotient_steps<K: NumberKind>(
+    p: &Record<K>,
+    q: &Record<K>,
+    place: usize,
+) -> Result<Record<K>, Fault>
     ensures { λ r. ⌜ r ≡ divided (K·NumberKind .model) place (now (p .entry)) (now (q .entry)) ⌝ }
 {
     if q.u.holds_zero() {
-        return Err(Fault { cause: Cause::Divisor, place });
+        return Err(Fault {
+            cause: Cause::Divisor,
+            place,
+        });
     }
     let u = present(p.u.quotient(q.u), place)?;
     let u0 = present(p.u0.quotient(q.u0), place)?;
@@ -71,7 +87,11 @@ fn quotient_steps<K: NumberKind>(p: &Record<K>, q: &Record<K>, place: usize) -> 
 }
 
 // The record of a quotient.
-pub fn quotient<K: NumberKind>(p: &Record<K>, q: &Record<K>, place: usize) -> Result<Record<K>, Fault>
+pub fn quotient<K: NumberKind>(
+    p: &Record<K>,
+    q: &Record<K>,
+    place: usize,
+) -> Result<Record<K>, Fault>
     ensures value { λ r. ⌜ r ≡ divided (K·NumberKind .model) place (now (p .entry)) (now (q .entry)) ⌝ }
     ensures truth { λ r. ⌜ Divided (K·NumberKind .model) (spans.quotient (K·NumberKind .model) (now (p .entry) .u) (now (q .entry) .u)) (now (p .entry)) (now (q .entry)) r ⌝ }
 {

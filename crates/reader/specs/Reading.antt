@@ -33,12 +33,12 @@ operand-at false bytes at line = Ok (0, at)
 -- the line at a place and where it ends: its operation, then its operands
 abbrev pub line-at : List ℕ → ℕ → Result (Line × ℕ) Fault
 line-at bytes at =
-  after (number-at bytes at at) (λ op.
-  cond (ltb 10 (op .0)) (refused Operation at)
-  (after (number-at bytes (op .1) at) (λ a.
-  after (operand-at (ltb 1 (arity (op .0))) bytes (a .1) at) (λ b.
-  after (operand-at (ltb 2 (arity (op .0))) bytes (b .1) at) (λ c.
-  Ok (line-of (op .0) (a .0) (b .0) (c .0), c .1))))))
+    after (number-at bytes at at) (λ op.
+    cond (ltb 10 (op .0)) (refused Operation at)
+    (after (number-at bytes (op .1) at) (λ a.
+    after (operand-at (ltb 1 (arity (op .0))) bytes (a .1) at) (λ b.
+    after (operand-at (ltb 2 (arity (op .0))) bytes (b .1) at) (λ c.
+    Ok (line-of (op .0) (a .0) (b .0) (c .0), c .1))))))
 
 -- the number of lines, 1 to 64, and where the first line begins
 abbrev pub count-at : List ℕ → Result (ℕ × Place) Fault

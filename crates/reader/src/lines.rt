@@ -24,7 +24,11 @@ fn operand(bytes: &[u8], place: &mut Place, line: usize) -> Result<u32, Fault>
 fn operand_if(wanted: bool, bytes: &[u8], place: &mut Place, line: usize) -> Result<u32, Fault>
     ensures { λ r. ⌜ Stands (reading.operand-at wanted (now (bytes .entry)) (now (place .entry) .at) line) r (now (place .entry) .at) (now (place .exit) .at) ⌝ }
 {
-    if wanted { operand(bytes, place, line) } else { Ok(0) }
+    if wanted {
+        operand(bytes, place, line)
+    } else {
+        Ok(0)
+    }
 }
 
 // The line at the place, which then stands behind it. Where it is not well formed the place goes back to its first byte.
@@ -35,7 +39,10 @@ pub fn line_at(bytes: &[u8], place: &mut Place) -> Result<Line, Fault>
     let guard = Guard { place, start };
     let operation = operand(bytes, guard.place, start)?;
     if operation > 10 {
-        return Err(Fault { cause: Cause::Operation, place: start });
+        return Err(Fault {
+            cause: Cause::Operation,
+            place: start,
+        });
     }
     let a = operand(bytes, guard.place, start)?;
     let operands = arity(operation);
@@ -52,10 +59,16 @@ pub fn count_at(bytes: &[u8]) -> Result<(usize, Place), Fault>
     let mut place = Place { at: 0 };
     let count = operand(bytes, &mut place, 0)?;
     if count > 64 {
-        return Err(Fault { cause: Cause::Count, place: 0 });
+        return Err(Fault {
+            cause: Cause::Count,
+            place: 0,
+        });
     }
     if count == 0 {
-        return Err(Fault { cause: Cause::Count, place: 0 });
+        return Err(Fault {
+            cause: Cause::Count,
+            place: 0,
+        });
     }
     Ok((count as usize, place))
 }
@@ -65,7 +78,10 @@ pub fn end_at(bytes: &[u8], place: Place) -> Result<(), Fault>
     ensures { λ r. ⌜ r ≡ reading.end-at (now (bytes .entry)) (place .at) ⌝ }
 {
     if place.at < bytes.len() {
-        return Err(Fault { cause: Cause::Left, place: place.at });
+        return Err(Fault {
+            cause: Cause::Left,
+            place: place.at,
+        });
     }
     Ok(())
 }

@@ -39,7 +39,8 @@ module _ {K : Type 0} (m : Model K) (s : Span K) (u : Frac) where
   pub near : Held m s u → Near (report-of (low m s) (high m s)) u
   near i = record {
     low = ≤F-trans (less (down (low m s) (high m s))) (≤F-trans (floor-is 65536 (lit< tt) (m .value (s .lower)) .low) (i .low));
-    high = ≤F-trans (i .high) (≤F-trans (ceiling-is 65536 (lit< tt) (m .value (s .upper)) .high) (less (up (low m s) (high m s)))) }
+    high = ≤F-trans (i .high) (≤F-trans (ceiling-is 65536 (lit< tt) (m .value (s .upper)) .high) (less (up (low m s) (high m s))));
+  }
 
 -- 64 bits hold such an end
 pub plain-end : {k k′ : ℤ} → k ≡ k′ → Small k′ → toZ w64 (ofZ w64 k) ≡ k′

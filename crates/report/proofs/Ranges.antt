@@ -25,7 +25,8 @@ module _ {K : Type 0} (m : Model K) where
   pub meet-in : (s t : Span K) (x : Frac) → Held m s x → Held m t x → Held m (spans.meet m s t) x
   meet-in s t x p q = record {
     low = greater-ind m (s .lower) (t .lower) (λ a. m .value a ≤F x) (p .low) (q .low);
-    high = lesser-ind m (s .upper) (t .upper) (λ a. x ≤F m .value a) (p .high) (q .high) }
+    high = lesser-ind m (s .upper) (t .upper) (λ a. x ≤F m .value a) (p .high) (q .high);
+  }
 
   module _ (rules : Rules m) (b : Box) (r : Record K) (x u u0 : Frac) (sweeps : Sweeps b x) (t : True m r (x -F count (b .centre)) u u0) where
     abbrev h : Frac
@@ -42,9 +43,9 @@ module _ {K : Type 0} (m : Model K) where
 
     far : Far (distance m b)
     far = step Far (nth (b .lower) (b .swept)) _ tt (λ l el. step Far (nth (b .upper) (b .swept)) _ tt (λ v ev.
-      step Far (spans.of-counts m l v) _ tt (λ s es. step Far (spans.of-counts m (b .centre) (b .centre)) _ tt (λ s0 es0.
-      let p = sweeps l v el ev in
-      there (spans.difference m s s0) (λ d ed. difference-in m rules s s0 d x (count (b .centre)) ed (counts-in m rules l v s x es (p .0) (p .1)) (counts-in m rules (b .centre) (b .centre) s0 _ es0 (≤F-refl _) (≤F-refl _)))))))
+        step Far (spans.of-counts m l v) _ tt (λ s es. step Far (spans.of-counts m (b .centre) (b .centre)) _ tt (λ s0 es0.
+        let p = sweeps l v el ev in
+        there (spans.difference m s s0) (λ d ed. difference-in m rules s s0 d x (count (b .centre)) ed (counts-in m rules l v s x es (p .0) (p .1)) (counts-in m rules (b .centre) (b .centre) s0 _ es0 (≤F-refl _) (≤F-refl _)))))))
       where
         there : (o : Option (Span K)) → ((d : Span K) → o ≡ Some d → Held m d h) → Far o
         there None f = tt
@@ -56,15 +57,15 @@ module _ {K : Type 0} (m : Model K) where
 
     first : (d : Span K) → Held m d h → Holds (first-form m r d)
     first d i = step Holds (r .slopes) _ tt (λ s es. step Holds (spans.product m (s .a) d) _ tt (λ ad ea.
-      there (spans.sum m (r .u0) ad) (λ f ef. let S = sloped m r h u u0 t s es in
+        there (spans.sum m (r .u0) ad) (λ f ef. let S = sloped m r h u u0 t s es in
         held-≈ m f (forms.first-form (S .slope)) (sum-in m rules _ _ f _ _ ef (t .centre) (product-in m rules _ _ ad _ _ ea (S .a-in) i)))))
 
     second : (d : Span K) → Held m d h → Holds (second-form m r d)
     second d i = step Holds (r .slopes) _ tt (λ s es. step Holds (spans.product m (s .b) d) _ tt (λ bd eb. step Holds (spans.product m d d) _ tt (λ dd edd.
-      step Holds (spans.product m (s .c) dd) _ tt (λ cdd ec. step Holds (spans.sum m bd cdd) _ tt (λ q eq.
-      there (spans.sum m (r .u0) q) (λ f ef. let S = sloped m r h u u0 t s es in
+        step Holds (spans.product m (s .c) dd) _ tt (λ cdd ec. step Holds (spans.sum m bd cdd) _ tt (λ q eq.
+        there (spans.sum m (r .u0) q) (λ f ef. let S = sloped m r h u u0 t s es in
         held-≈ m f (forms.second-form (S .slope)) (sum-in m rules _ _ f _ _ ef (t .centre)
-          (sum-in m rules _ _ q _ _ eq (product-in m rules _ _ bd _ _ eb (S .b-in) i) (product-in m rules _ _ cdd _ _ ec (S .c-in) (product-in m rules _ _ dd _ _ edd i i))))))))))
+        (sum-in m rules _ _ q _ _ eq (product-in m rules _ _ bd _ _ eb (S .b-in) i) (product-in m rules _ _ cdd _ _ ec (S .c-in) (product-in m rules _ _ dd _ _ edd i i))))))))))
 
     narrow : (s : Span K) (o : Option (Span K)) → Held m s u → Holds o → Held m (narrowed m s o) u
     narrow s None i j = i

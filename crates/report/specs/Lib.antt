@@ -1,4 +1,2 @@
 pub mod Reports
 pub mod Near
-
-

@@ -29,7 +29,7 @@ module _ {K : Type 0} (m : Model K) where
   -- U0 + (B × D + C × (D × D))
   abbrev pub second-form : Record K → Span K → Option (Span K)
   second-form r d = r .slopes >>= (λ s.
-    spans.product m (s .b) d >>= (λ bd. spans.product m d d >>= (λ dd. spans.product m (s .c) dd >>= (λ cdd. spans.sum m bd cdd >>= (λ t. spans.sum m (r .u0) t)))))
+      spans.product m (s .b) d >>= (λ bd. spans.product m d d >>= (λ dd. spans.product m (s .c) dd >>= (λ cdd. spans.sum m bd cdd >>= (λ t. spans.sum m (r .u0) t)))))
 
   -- a form that is absent is left out
   abbrev pub narrowed : Span K → Option (Span K) → Span K

@@ -7,12 +7,12 @@ ghost use Rattle.boxes.specs.Stored.{box-of};
 ghost use Rattle.span.specs.Narrowest.{Held};
 ghost use Rattle.report.specs.Near.{Near, Covers};
 ghost use Rattle.report.specs.Reports as reports;
-use boxes::ChannelBox;
 use crate::answer::Report;
 use crate::forms::distance;
 use crate::forms::first_form;
 use crate::forms::narrowed;
 use crate::forms::second_form;
+use boxes::ChannelBox;
 use kind::NumberKind;
 use slope::Record;
 use span::Span;
@@ -42,7 +42,10 @@ fn between(low: i64, high: i64) -> Report
     ensures { λ r. ⌜ r ≡ reports.report-of low high ⌝ }
 {
     let middle = (low + high).div_euclid(2);
-    Report { middle, margin: high - middle }
+    Report {
+        middle,
+        margin: high - middle,
+    }
 }
 
 // The range of a line as a middle and a margin. It answers for any record, and covers the line's exact value if the record is true.

@@ -46,8 +46,8 @@ module _ {K : Type 0} (m : Model K) where
 
   abbrev pub channel : Box → ℕ → ℕ → Result (Record K) Fault
   channel b c place =
-    after (found NoChannel place (nth (b .lower) c)) (λ lower. after (found NoChannel place (nth (b .upper) c)) (λ upper.
-    cond (eqb c (b .swept)) (swept-range lower upper (b .centre) place) (still-range lower upper place)))
+      after (found NoChannel place (nth (b .lower) c)) (λ lower. after (found NoChannel place (nth (b .upper) c)) (λ upper.
+      cond (eqb c (b .swept)) (swept-range lower upper (b .centre) place) (still-range lower upper place)))
 
   abbrev pub constant : ℤ → ℕ → Result (Record K) Fault
   constant n place = cond (is-count n) (still-range n n place) (refused Number place)

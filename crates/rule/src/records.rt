@@ -35,7 +35,12 @@ fn still_range<K: NumberKind>(lower: i32, upper: i32, place: usize) -> Result<Re
 }
 
 // The record of a range of counts that is swept about a centre.
-fn swept_range<K: NumberKind>(lower: i32, upper: i32, centre: i32, place: usize) -> Result<Record<K>, Fault>
+fn swept_range<K: NumberKind>(
+    lower: i32,
+    upper: i32,
+    centre: i32,
+    place: usize,
+) -> Result<Record<K>, Fault>
     ensures { λ r. ⌜ r ≡ rules.swept-range (K·NumberKind .model) lower upper centre place ⌝ }
 {
     let x = present(Span::of_counts(lower, upper), place)?;
@@ -47,7 +52,10 @@ fn channel<K: NumberKind>(b: &ChannelBox, c: usize, place: usize) -> Result<Reco
     ensures { λ r. ⌜ r ≡ rules.channel (K·NumberKind .model) (box-of (now (b .entry))) c place ⌝ }
 {
     if c >= b.channels {
-        return Err(Fault { cause: Cause::NoChannel, place });
+        return Err(Fault {
+            cause: Cause::NoChannel,
+            place,
+        });
     }
     let (lower, upper) = (b.lower[c], b.upper[c]);
     if c == b.swept {
@@ -61,7 +69,10 @@ fn constant<K: NumberKind>(n: i64, place: usize) -> Result<Record<K>, Fault>
     ensures { λ r. ⌜ r ≡ rules.constant (K·NumberKind .model) n place ⌝ }
 {
     if n < -1_073_741_823 || n > 1_073_741_823 {
-        return Err(Fault { cause: Cause::Number, place });
+        return Err(Fault {
+            cause: Cause::Number,
+            place,
+        });
     }
     still_range(n as i32, n as i32, place)
 }
@@ -69,10 +80,21 @@ fn constant<K: NumberKind>(n: i64, place: usize) -> Result<Record<K>, Fault>
 fn operand<K: NumberKind>(earlier: &[Record<K>], l: usize) -> Result<&Record<K>, Fault>
     ensures { λ r. ⌜ lent r ≡ rules.operand (now (earlier .entry)) l ⌝ }
 {
-    if l < earlier.len() { Ok(&earlier[l]) } else { Err(Fault { cause: Cause::Operand, place: earlier.len() }) }
+    if l < earlier.len() {
+        Ok(&earlier[l])
+    } else {
+        Err(Fault {
+            cause: Cause::Operand,
+            place: earlier.len(),
+        })
+    }
 }
 
-fn two<K: NumberKind>(earlier: &[Record<K>], l: usize, r: usize) -> Result<(&Record<K>, &Record<K>), Fault>
+fn two<K: NumberKind>(
+    earlier: &[Record<K>],
+    l: usize,
+    r: usize,
+) -> Result<(&Record<K>, &Record<K>), Fault>
     ensures { λ x. ⌜ lent-two x ≡ rules.two (now (earlier .entry)) l r ⌝ }
 {
     let p = operand(earlier, l)?;
@@ -80,7 +102,12 @@ fn two<K: NumberKind>(earlier: &[Record<K>], l: usize, r: usize) -> Result<(&Rec
     Ok((p, q))
 }
 
-fn all_three<K: NumberKind>(earlier: &[Record<K>], s: usize, q: usize, r: usize) -> Result<(&Record<K>, &Record<K>, &Record<K>), Fault>
+fn all_three<K: NumberKind>(
+    earlier: &[Record<K>],
+    s: usize,
+    q: usize,
+    r: usize,
+) -> Result<(&Record<K>, &Record<K>, &Record<K>), Fault>
     ensures { λ x. ⌜ lent-three x ≡ rules.all-three (now (earlier .entry)) s q r ⌝ }
 {
     let s = operand(earlier, s)?;
@@ -90,7 +117,11 @@ fn all_three<K: NumberKind>(earlier: &[Record<K>], s: usize, q: usize, r: usize)
 }
 
 // The record of one more line, or why it is refused.
-pub fn record_of<K: NumberKind>(b: &ChannelBox, earlier: &[Record<K>], line: Line) -> Result<Record<K>, Fault>
+pub fn record_of<K: NumberKind>(
+    b: &ChannelBox,
+    earlier: &[Record<K>],
+    line: Line,
+) -> Result<Record<K>, Fault>
     ensures { λ r. ⌜ r ≡ rules.rule (K·NumberKind .model) (box-of (now (b .entry))) (now (earlier .entry)) line ⌝ }
 {
     let place = earlier.len();

@@ -13,7 +13,10 @@ pub struct Counts {
 
 // Lower and upper end of each channel in turn.
 pub fn counts_of(heap: Global, text: &str) -> Result<Counts, Slip<'_>> {
-    let mut counts = Counts { lower: Vec::new(heap), upper: Vec::new(heap) };
+    let mut counts = Counts {
+        lower: Vec::new(heap),
+        upper: Vec::new(heap),
+    };
     let mut below = true;
     for word in text.split_whitespace() {
         let n = number_of(word)?;

@@ -25,7 +25,10 @@ pub fn bytes_of<'a>(heap: Global, words: &mut Words<'a>) -> Result<Vec<u8>, Slip
             break;
         };
         let Some(byte) = byte_of(word) else {
-            return Err(Slip { word, problem: Problem::NoByte });
+            return Err(Slip {
+                word,
+                problem: Problem::NoByte,
+            });
         };
         bytes.push(byte)?;
     }
@@ -41,10 +44,16 @@ pub fn append_bytes<'a>(bytes: &mut Vec<u8>, text: &'a str) -> Result<(), Slip<'
                 break;
             }
             let Some((digits, after)) = rest.split_at_checked(2) else {
-                return Err(Slip { word, problem: Problem::NoByte });
+                return Err(Slip {
+                    word,
+                    problem: Problem::NoByte,
+                });
             };
             let Some(byte) = byte_of(digits) else {
-                return Err(Slip { word, problem: Problem::NoByte });
+                return Err(Slip {
+                    word,
+                    problem: Problem::NoByte,
+                });
             };
             bytes.push(byte)?;
             rest = after;

@@ -13,7 +13,11 @@ use line::Line;
 use std::alloc::Global;
 
 // The numbers up to a word.
-fn numbers_to<'a>(heap: Global, words: &mut Words<'a>, end: &'static str) -> Result<Vec<i64>, Slip<'a>> {
+fn numbers_to<'a>(
+    heap: Global,
+    words: &mut Words<'a>,
+    end: &'static str,
+) -> Result<Vec<i64>, Slip<'a>> {
     let mut numbers = Vec::new(heap);
     for _ in 0..u64::MAX {
         let word = words.word()?;
@@ -32,7 +36,12 @@ fn opening<'a>(heap: Global, words: &mut Words<'a>) -> Result<Opening, Slip<'a>>
     let swept = words.index()?;
     words.expect("centre")?;
     let centre = words.number()?;
-    Ok(Opening { lower, upper, swept, centre })
+    Ok(Opening {
+        lower,
+        upper,
+        swept,
+        centre,
+    })
 }
 
 fn line_of<'a>(words: &mut Words<'a>) -> Result<Line, Slip<'a>> {
@@ -49,7 +58,10 @@ fn line_of<'a>(words: &mut Words<'a>) -> Result<Line, Slip<'a>> {
         "greater" => Line::Greater(words.index()?, words.index()?),
         "lesser" => Line::Lesser(words.index()?, words.index()?),
         "branch" => Line::Branch(words.index()?, words.index()?, words.index()?),
-        _ => return Err(Slip { word: operation, problem: Problem::NoOperation }),
+        _ => return Err(Slip {
+            word: operation,
+            problem: Problem::NoOperation,
+        }),
     };
     Ok(line)
 }
@@ -59,7 +71,10 @@ fn kind_of<'a>(words: &mut Words<'a>) -> Result<KindName, Slip<'a>> {
     match word {
         "fixed" => Ok(KindName::Fixed),
         "sliding" => Ok(KindName::Sliding),
-        _ => Err(Slip { word, problem: Problem::NoKind }),
+        _ => Err(Slip {
+            word,
+            problem: Problem::NoKind,
+        }),
     }
 }
 
@@ -68,7 +83,10 @@ fn within<'a>(words: &mut Words<'a>, limit: i64) -> Result<usize, Slip<'a>> {
     let word = words.word()?;
     let n = number_of(word)?;
     if n < 0 || n > limit {
-        return Err(Slip { word, problem: Problem::Beyond });
+        return Err(Slip {
+            word,
+            problem: Problem::Beyond,
+        });
     }
     Ok(n as usize)
 }
@@ -79,7 +97,10 @@ fn room<'a>(words: &mut Words<'a>) -> Result<Option<usize>, Slip<'a>> {
     };
     let n = number_of(word)?;
     if n < 0 {
-        return Err(Slip { word, problem: Problem::NoIndex });
+        return Err(Slip {
+            word,
+            problem: Problem::NoIndex,
+        });
     }
     Ok(Some(n as usize))
 }
@@ -97,7 +118,10 @@ fn call<'a>(heap: Global, word: &'a str, words: &mut Words<'a>) -> Result<Call, 
         "record" => Call::Record(words.index()?),
         "working" => Call::Working(within(words, 127)?),
         "spare" => Call::Spare(within(words, 127)?),
-        _ => return Err(Slip { word, problem: Problem::NoCall }),
+        _ => return Err(Slip {
+            word,
+            problem: Problem::NoCall,
+        }),
     };
     words.end()?;
     Ok(call)

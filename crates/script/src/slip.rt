@@ -45,12 +45,18 @@ pub struct Slip<'a> {
 
 pub impl From<AllocError> for Slip<'_> as SlipFromAlloc {
     fn from(_error: AllocError) -> Self {
-        Slip { word: "the line", problem: Problem::NoMemory }
+        Slip {
+            word: "the line",
+            problem: Problem::NoMemory,
+        }
     }
 }
 
 pub impl<T: Drop> From<Refused<T>> for Slip<'_> as SlipFromRefused {
     fn from(_refused: Refused<T>) -> Self {
-        Slip { word: "the line", problem: Problem::NoMemory }
+        Slip {
+            word: "the line",
+            problem: Problem::NoMemory,
+        }
     }
 }

@@ -11,7 +11,10 @@ pub struct Words<'a> {
 
 impl<'a> Words<'a> {
     pub fn new(text: &'a str) -> Words<'a> {
-        Words { rest: text.split_whitespace(), last: "the line" }
+        Words {
+            rest: text.split_whitespace(),
+            last: "the line",
+        }
     }
 
     pub fn next(&mut self) -> Option<&'a str> {
@@ -25,13 +28,23 @@ impl<'a> Words<'a> {
     pub fn word(&mut self) -> Result<&'a str, Slip<'a>> {
         match self.next() {
             Some(word) => Ok(word),
-            None => Err(Slip { word: self.last, problem: Problem::Missing }),
+            None => Err(Slip {
+                word: self.last,
+                problem: Problem::Missing,
+            }),
         }
     }
 
     pub fn expect(&mut self, wanted: &'static str) -> Result<(), Slip<'a>> {
         let word = self.word()?;
-        if word == wanted { Ok(()) } else { Err(Slip { word, problem: Problem::Expected(wanted) }) }
+        if word == wanted {
+            Ok(())
+        } else {
+            Err(Slip {
+                word,
+                problem: Problem::Expected(wanted),
+            })
+        }
     }
 
     pub fn number(&mut self) -> Result<i64, Slip<'a>> {
@@ -46,7 +59,10 @@ impl<'a> Words<'a> {
 
     pub fn end(&mut self) -> Result<(), Slip<'a>> {
         match self.next() {
-            Some(word) => Err(Slip { word, problem: Problem::Surplus }),
+            Some(word) => Err(Slip {
+                word,
+                problem: Problem::Surplus,
+            }),
             None => Ok(()),
         }
     }
@@ -55,14 +71,20 @@ impl<'a> Words<'a> {
 pub fn number_of(word: &str) -> Result<i64, Slip<'_>> {
     match word.parse::<i64>() {
         Ok(n) => Ok(n),
-        Err(_) => Err(Slip { word, problem: Problem::NoNumber }),
+        Err(_) => Err(Slip {
+            word,
+            problem: Problem::NoNumber,
+        }),
     }
 }
 
 fn index_of(word: &str) -> Result<usize, Slip<'_>> {
     let n = number_of(word)?;
     if n < 0 {
-        return Err(Slip { word, problem: Problem::NoIndex });
+        return Err(Slip {
+            word,
+            problem: Problem::NoIndex,
+        });
     }
     Ok(n as usize)
 }

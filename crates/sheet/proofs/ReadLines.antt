@@ -63,16 +63,17 @@ module _ {K : Type 0} (m : Model K) (b : Box) (count : ℕ) (bytes : List ℕ) (
       answer-is = sym (ap (λ o. o .answer) e);
       lines-are = λ t. ap (λ k. take k lines) (sym (all t)) ∙ sym (ap (λ o. o .lines) e);
       records-are = sym (ap (λ o. overlaid (o .records) w0) e
-        ∙ ap (λ k. take n working ++ drop k w0) (length-take-le n working (g .within)) ∙ ap (λ ws. take n working ++ ws) (sym (g .rest)) ∙ take-append-drop n working) }
+          ∙ ap (λ k. take n working ++ drop k w0) (length-take-le n working (g .within)) ∙ ap (λ ws. take n working ++ ws) (sym (g .rest)) ∙ take-append-drop n working);
+    }
 
     pub going-end : count ≤ n → (r : Result (Unit {0}) Fault) → r ≡ end-at bytes place → Ended r lines working
     going-end h r q = ended r (λ _. let s = g .some in omega arith) (g .so-far ∙ ap (λ k. read-lines m b k bytes place (take n lines) (take n working)) {x = count - n} {y = 0} (omega arith)
-      ∙ ap (λ x. ends x (take n lines) (take n working)) (sym q))
+        ∙ ap (λ x. ends x (take n lines) (take n working)) (sym q))
 
     module _ (k : n < count) where
       abbrev one : Result (Line × ℕ) Fault → Outcome K
       one F = goes-on F (take n lines) (take n working) (λ p. goes-on (rule m b (take n working) (p .0)) (take n lines) (take n working) (λ r.
-        read-lines m b (count - (n + 1)) bytes (p .1) (take n lines ++ p .0 ∷ []) (take n working ++ r ∷ [])))
+          read-lines m b (count - (n + 1)) bytes (p .1) (take n lines ++ p .0 ∷ []) (take n working ++ r ∷ [])))
 
       next-line : outcome ≡ one (line-at bytes place)
       next-line = g .so-far ∙ ap (λ k. read-lines m b k bytes place (take n lines) (take n working)) {x = count - n} {y = suc (count - (n + 1))} (omega arith)
@@ -90,11 +91,12 @@ module _ {K : Type 0} (m : Model K) (b : Box) (count : ℕ) (bytes : List ℕ) (
         pub going-on : {made : Record K} {after : List (Record K)} → after ≡ set working n made → Ok made ≡ rule m b (take n working) line → n < length lines → n < length working → Going (set lines n line) after place′ (n + 1)
         going-on {made} e f hl hw = subst (λ w. Going (set lines n line) w place′ (n + 1)) (sym e) (record {
           so-far = next-line ∙ ap one q ∙ ap two (sym f)
-            ∙ ap₂ (read-lines m b (count - (n + 1)) bytes place′) (sym (take-more-set lines n line hl)) (sym (take-more-set working n made hw));
+              ∙ ap₂ (read-lines m b (count - (n + 1)) bytes place′) (sym (take-more-set lines n line hl)) (sym (take-more-set working n made hw));
           rest = drop-set-lt (n + 1) working n made (omega arith) ∙ later;
           long = length-set working n made ∙ g .long;
           within = let l = length-set working n made in omega arith;
-          some = omega arith })
+          some = omega arith;
+        })
           where
             later : drop (n + 1) working ≡ drop (n + 1) w0
             later = sym (drop-drop 1 n working) ∙ ap (drop 1) (g .rest) ∙ drop-drop 1 n w0

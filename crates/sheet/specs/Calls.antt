@@ -44,9 +44,9 @@ module _ {K : Type 0} (m : Model K) where
   -- the record of one more line, by the working lines, or why it is refused
   abbrev pub next : Contents → List (Record K) → Line → Result (Record K) Fault
   next s w line =
-    cond (ltb (length w) 64) (refused Lines 0)
-    (cond (eqb (length (s .lines)) 64) (refused Full 64)
-    (rule m (s .over) (take (length (s .lines)) w) line))
+      cond (ltb (length w) 64) (refused Lines 0)
+      (cond (eqb (length (s .lines)) 64) (refused Full 64)
+      (rule m (s .over) (take (length (s .lines)) w) line))
 
 module _ {R : Type 0} where
   -- the line's number
@@ -67,5 +67,5 @@ module _ {R : Type 0} where
 module _ {K : Type 0} (m : Model K) where
   abbrev pub report : Contents → List (Record K) → ℕ → Result Report Fault
   report s w line =
-    cond (ltb (length w) 64) (refused Lines 0)
-    (after (found NoLine line (nth (take (length (s .lines)) w) line)) (λ r. Ok (reported m (s .over) r)))
+      cond (ltb (length w) 64) (refused Lines 0)
+      (after (found NoLine line (nth (take (length (s .lines)) w) line)) (λ r. Ok (reported m (s .over) r)))

@@ -1,5 +1,3 @@
 pub mod Contents
 pub mod Calls
-
-
 pub mod Reading

@@ -41,18 +41,18 @@ module _ {K : Type 0} where
     abbrev pub read-lines : Box → ℕ → List ℕ → ℕ → List Line → List (Record K) → Outcome K
     read-lines b zero bytes at ls rs = ends (end-at bytes at) ls rs
     read-lines b (suc n) bytes at ls rs =
-      goes-on (line-at bytes at) ls rs (λ p.
-      goes-on (rule m b rs (p .0)) ls rs (λ r.
-      read-lines b n bytes (p .1) (ls ++ p .0 ∷ []) (rs ++ r ∷ [])))
+        goes-on (line-at bytes at) ls rs (λ p.
+        goes-on (rule m b rs (p .0)) ls rs (λ r.
+        read-lines b n bytes (p .1) (ls ++ p .0 ∷ []) (rs ++ r ∷ [])))
 
     abbrev pub read-formula : Box → List ℕ → Outcome K
     read-formula b bytes = goes-on (count-at bytes) [] [] (λ p. read-lines b (p .0) bytes (p .1 .at) [] [])
 
     abbrev pub read-onto : Contents → List (Record K) → List ℕ → Outcome K
     read-onto s w bytes =
-      cond (ltb (length w) 64) (ends (refused Lines 0) [] [])
-      (cond (ltb 0 (length (s .lines))) (ends (refused NotEmpty 0) [] [])
-      (read-formula (s .over) bytes))
+        cond (ltb (length w) 64) (ends (refused Lines 0) [] [])
+        (cond (ltb 0 (length (s .lines))) (ends (refused NotEmpty 0) [] [])
+        (read-formula (s .over) bytes))
 
 -- the sheet afterwards: a refused read leaves no line
 abbrev pub filled : Contents → Result (Unit {0}) Fault → List Line → Contents

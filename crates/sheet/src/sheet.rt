@@ -4,6 +4,7 @@ ghost use Prim.Native.Nat.{_≤_};
 ghost use lib.ListN.{length};
 use boxes::ChannelBox;
 use line::Line;
+
 mod adding;
 mod opening;
 mod reading;

@@ -40,10 +40,12 @@ ratio-of x y z e = ap (λ (n : ℕ). pos (2 ^ n)) e ∙ ap pos (pow-add 2 y z)
 -- equal cross products are equal ratios
 ratio-same : (n n' : ℤ) (d d' : ℕ) (h : 0 < d) (h' : 0 < d') → n *ℤ pos d' ≡ n' *ℤ pos d → units-over sliding-grid n d h ≈ units-over sliding-grid n' d' h'
 unfolding units-over
-ratio-same n n' d d' h h' e = record { cross =
-    ring (n ∷ pos d' ∷ []) (x0 ⊗ (x1 ⊗ num (pos 16777216))) (x0 ⊗ x1 ⊗ num (pos 16777216)) refl
-    ∙ ap (λ (z : ℤ). z *ℤ pos 16777216) e
-    ∙ ring (n' ∷ pos d ∷ []) (x0 ⊗ x1 ⊗ num (pos 16777216)) (x0 ⊗ (x1 ⊗ num (pos 16777216))) refl }
+ratio-same n n' d d' h h' e = record {
+  cross =
+      ring (n ∷ pos d' ∷ []) (x0 ⊗ (x1 ⊗ num (pos 16777216))) (x0 ⊗ x1 ⊗ num (pos 16777216)) refl
+      ∙ ap (λ (z : ℤ). z *ℤ pos 16777216) e
+      ∙ ring (n' ∷ pos d ∷ []) (x0 ⊗ x1 ⊗ num (pos 16777216)) (x0 ⊗ (x1 ⊗ num (pos 16777216))) refl;
+}
 
 pub below-ratio : (r : Option Sliding) (n n' : ℤ) (d d' : ℕ) (h : 0 < d) (h' : 0 < d') → r ≡ grid-below sliding-grid (units-over sliding-grid n d h) → n *ℤ pos d' ≡ n' *ℤ pos d → r ≡ grid-below sliding-grid (units-over sliding-grid n' d' h')
 below-ratio r n n' d d' h h' p e = p ∙ below-cong (sliding-model) sliding-rules (ratio-same n n' d d' h h' e)
@@ -59,17 +61,19 @@ pub product-fine : (a b n : ℤ) (s r d : ℕ) → natAbs a ≤ 16777215 → nat
 product-fine a b n s r d p q e h f = let w = product-bound a b 16777215 16777215 p q in let o = pow-pos (24 - (s + r)) in record {
   held = record { positive = omega arith; bound = subst (λ (z : ℤ). natAbs z ≤ 2 ^ 62) (sym e) (omega arith); wide = λ z. omega arith; short = omega arith };
   cross = ap (λ (z : ℤ). shifted z 0 *ℤ pos 16777216) e
-    ∙ ap (λ (z : ℤ). ((a *ℤ b) *ℤ pos 1) *ℤ z) (ratio-of 24 (s + r) (24 - (s + r)) (omega arith) ∙ ap (λ (z : ℤ). z *ℤ pos (2 ^ (24 - (s + r)))) (ratio-of (s + r) s r refl))
-    ∙ ring (a ∷ b ∷ pos (2 ^ s) ∷ pos (2 ^ r) ∷ pos (2 ^ (24 - (s + r))) ∷ []) (x0 ⊗ x1 ⊗ num (pos 1) ⊗ (x2 ⊗ x3 ⊗ x4)) ((x0 ⊗ x2) ⊗ (x1 ⊗ x3) ⊗ x4) refl
-    ∙ ap (λ (k : ℕ). (shifted a s *ℤ shifted b r) *ℤ pos k) (sym f) }
+      ∙ ap (λ (z : ℤ). ((a *ℤ b) *ℤ pos 1) *ℤ z) (ratio-of 24 (s + r) (24 - (s + r)) (omega arith) ∙ ap (λ (z : ℤ). z *ℤ pos (2 ^ (24 - (s + r)))) (ratio-of (s + r) s r refl))
+      ∙ ring (a ∷ b ∷ pos (2 ^ s) ∷ pos (2 ^ r) ∷ pos (2 ^ (24 - (s + r))) ∷ []) (x0 ⊗ x1 ⊗ num (pos 1) ⊗ (x2 ⊗ x3 ⊗ x4)) ((x0 ⊗ x2) ⊗ (x1 ⊗ x3) ⊗ x4) refl
+      ∙ ap (λ (k : ℕ). (shifted a s *ℤ shifted b r) *ℤ pos k) (sym f);
+}
 
 pub product-nought : (a b n : ℤ) (s r : ℕ) → n ≡ a *ℤ b → n ≡ pos 0 → Stands (shifted a s *ℤ shifted b r) 16777216 n 1 0
 product-nought a b n s r e f = record {
   held = record { positive = omega arith; bound = subst (λ (z : ℤ). natAbs z ≤ 2 ^ 62) (sym f) (omega arith); wide = λ z. omega arith; short = omega arith };
   cross = ap (λ (z : ℤ). shifted z 0 *ℤ pos 16777216) f
-    ∙ ring (pos (2 ^ s) ∷ pos (2 ^ r) ∷ []) (num (pos 0)) (num (pos 0) ⊗ (x0 ⊗ x1) ⊗ num (pos 1)) refl
-    ∙ ap (λ (z : ℤ). (z *ℤ (pos (2 ^ s) *ℤ pos (2 ^ r))) *ℤ pos 1) (sym f ∙ e)
-    ∙ ring (a ∷ b ∷ pos (2 ^ s) ∷ pos (2 ^ r) ∷ []) (x0 ⊗ x1 ⊗ (x2 ⊗ x3) ⊗ num (pos 1)) ((x0 ⊗ x2) ⊗ (x1 ⊗ x3) ⊗ num (pos 1)) refl }
+      ∙ ring (pos (2 ^ s) ∷ pos (2 ^ r) ∷ []) (num (pos 0)) (num (pos 0) ⊗ (x0 ⊗ x1) ⊗ num (pos 1)) refl
+      ∙ ap (λ (z : ℤ). (z *ℤ (pos (2 ^ s) *ℤ pos (2 ^ r))) *ℤ pos 1) (sym f ∙ e)
+      ∙ ring (a ∷ b ∷ pos (2 ^ s) ∷ pos (2 ^ r) ∷ []) (x0 ⊗ x1 ⊗ (x2 ⊗ x3) ⊗ num (pos 1)) ((x0 ⊗ x2) ⊗ (x1 ⊗ x3) ⊗ num (pos 1)) refl;
+}
 
 -- of two marks whose product is not 0 one has 24 bits
 abs-times : (a b : ℤ) → natAbs (a *ℤ b) ≡ natAbs a * natAbs b
@@ -86,9 +90,10 @@ pub product-wide : (a b n : ℤ) (s r : ℕ) → Normal a s → Normal b r → n
 product-wide a b n s r p q e f h = let w = product-bound a b 16777215 16777215 (p .0) (q .0) in record {
   held = record { positive = omega arith; bound = subst (λ (z : ℤ). natAbs z ≤ 2 ^ 62) (sym e) (omega arith); wide = λ z. subst (λ (y : ℤ). 8388608 * 1 ≤ natAbs y) (sym e) (wide s r p q h); short = omega arith };
   cross = ap (λ (z : ℤ). shifted z (s + r - 24) *ℤ pos 16777216) e
-    ∙ ring (a ∷ b ∷ pos (2 ^ (s + r - 24)) ∷ []) (x0 ⊗ x1 ⊗ x2 ⊗ num (pos 16777216)) (x0 ⊗ x1 ⊗ (x2 ⊗ num (pos 16777216)) ⊗ num (pos 1)) refl
-    ∙ ap (λ (z : ℤ). ((a *ℤ b) *ℤ z) *ℤ pos 1) (sym (ratio-of (s + r) (s + r - 24) 24 (omega arith)) ∙ ratio-of (s + r) s r refl)
-    ∙ ring (a ∷ b ∷ pos (2 ^ s) ∷ pos (2 ^ r) ∷ []) (x0 ⊗ x1 ⊗ (x2 ⊗ x3) ⊗ num (pos 1)) ((x0 ⊗ x2) ⊗ (x1 ⊗ x3) ⊗ num (pos 1)) refl }
+      ∙ ring (a ∷ b ∷ pos (2 ^ (s + r - 24)) ∷ []) (x0 ⊗ x1 ⊗ x2 ⊗ num (pos 16777216)) (x0 ⊗ x1 ⊗ (x2 ⊗ num (pos 16777216)) ⊗ num (pos 1)) refl
+      ∙ ap (λ (z : ℤ). ((a *ℤ b) *ℤ z) *ℤ pos 1) (sym (ratio-of (s + r) (s + r - 24) 24 (omega arith)) ∙ ratio-of (s + r) s r refl)
+      ∙ ring (a ∷ b ∷ pos (2 ^ s) ∷ pos (2 ^ r) ∷ []) (x0 ⊗ x1 ⊗ (x2 ⊗ x3) ⊗ num (pos 1)) ((x0 ⊗ x2) ⊗ (x1 ⊗ x3) ⊗ num (pos 1)) refl;
+}
   where
     some : 0 < natAbs a * natAbs b
     some = let t = abs-times a b in let g : natAbs n ≡ natAbs a * natAbs b = ap natAbs e ∙ t in positive n f (natAbs a * natAbs b) g
@@ -97,6 +102,7 @@ product-wide a b n s r p q e f h = let w = product-bound a b 16777215 16777215 (
         positive (pos zero) f k g = absurd (f refl)
         positive (pos (suc z)) f k g = omega arith
         positive (negsuc z) f k g = omega arith
+
     wide : (s r : ℕ) → Normal a s → Normal b r → 24 ≤ s + r → 8388608 * 1 ≤ natAbs (a *ℤ b)
     wide zero r p q h = let u = wide-left (natAbs b) (natAbs a) (q .2 (omega arith)) (omega (arith, some, mul-comm (natAbs a) (natAbs b))) in omega (arith, abs-times a b, mul-comm (natAbs a) (natAbs b))
     wide (suc s) r p q h = let u = wide-left (natAbs a) (natAbs b) (p .2 (omega arith)) some in omega (arith, abs-times a b)
@@ -106,9 +112,10 @@ pub quotient-coarse : (m n : ℤ) (a by s d : ℕ) → n ≡ m → natAbs m ≤ 
 quotient-coarse m n a by s d g p q h e = let o = pow-pos (s - a - 24) in let w = mul-pos q o in record {
   held = record { positive = omega arith; bound = subst (λ (z : ℤ). natAbs z ≤ 2 ^ 62) (sym g) (omega arith); wide = λ z. omega arith; short = omega arith };
   cross = ap (λ (z : ℤ). shifted z 0 *ℤ pos (by * 2 ^ s)) g
-    ∙ ap (λ (z : ℤ). (m *ℤ pos 1) *ℤ (pos by *ℤ z)) (ratio-of s (a + 24) (s - a - 24) (omega arith) ∙ ap (λ (z : ℤ). z *ℤ pos (2 ^ (s - a - 24))) (ratio-of (a + 24) a 24 refl))
-    ∙ ring (m ∷ pos by ∷ pos (2 ^ a) ∷ pos (2 ^ (s - a - 24)) ∷ []) (x0 ⊗ num (pos 1) ⊗ (x1 ⊗ (x2 ⊗ num (pos 16777216) ⊗ x3))) (x0 ⊗ x2 ⊗ num (pos 16777216) ⊗ (x1 ⊗ x3)) refl
-    ∙ ap (λ (k : ℕ). (shifted m a *ℤ pos 16777216) *ℤ pos k) (sym e) }
+      ∙ ap (λ (z : ℤ). (m *ℤ pos 1) *ℤ (pos by *ℤ z)) (ratio-of s (a + 24) (s - a - 24) (omega arith) ∙ ap (λ (z : ℤ). z *ℤ pos (2 ^ (s - a - 24))) (ratio-of (a + 24) a 24 refl))
+      ∙ ring (m ∷ pos by ∷ pos (2 ^ a) ∷ pos (2 ^ (s - a - 24)) ∷ []) (x0 ⊗ num (pos 1) ⊗ (x1 ⊗ (x2 ⊗ num (pos 16777216) ⊗ x3))) (x0 ⊗ x2 ⊗ num (pos 16777216) ⊗ (x1 ⊗ x3)) refl
+      ∙ ap (λ (k : ℕ). (shifted m a *ℤ pos 16777216) *ℤ pos k) (sym e);
+}
 
 quotient-cross : (m : ℤ) (a by s j : ℕ) → j + s ≡ a + 24 → shifted m j *ℤ pos (by * 2 ^ s) ≡ (shifted m a *ℤ pos 16777216) *ℤ pos by
 quotient-cross m a by s j e =
@@ -120,15 +127,17 @@ pub quotient-fine : (m n : ℤ) (a by s : ℕ) → n ≡ shifted m (a + 24 - s) 
 quotient-fine m n a by s g p q h k = let b = shifted-bound m (a + 24 - s) 38 16777215 p k in record {
   held = record { positive = q; bound = subst (λ (z : ℤ). natAbs z ≤ 2 ^ 62) (sym g) (omega arith); wide = λ z. omega arith; short = omega arith };
   cross = ap (λ (z : ℤ). shifted z 0 *ℤ pos (by * 2 ^ s)) g
-    ∙ ap (λ (z : ℤ). z *ℤ pos (by * 2 ^ s)) (ring (shifted m (a + 24 - s) ∷ []) (x0 ⊗ num (pos 1)) x0 refl)
-    ∙ quotient-cross m a by s (a + 24 - s) (omega arith) }
+      ∙ ap (λ (z : ℤ). z *ℤ pos (by * 2 ^ s)) (ring (shifted m (a + 24 - s) ∷ []) (x0 ⊗ num (pos 1)) x0 refl)
+      ∙ quotient-cross m a by s (a + 24 - s) (omega arith);
+}
 
 pub quotient-wide : (m n : ℤ) (a by s t : ℕ) → n ≡ shifted m 38 → Normal m a → 0 < by → by ≤ 16777215 → s ≤ 32 → 38 < a + 24 - s → t ≡ a + 24 - s - 38 → Stands (shifted m a *ℤ pos 16777216) (by * 2 ^ s) n by t
 quotient-wide m n a by s t g p q r u h k = let b = abs-times m (pos (2 ^ 38)) in let c = p .2 (omega arith) in let d = p .0 in record {
   held = record { positive = q; bound = subst (λ (z : ℤ). natAbs z ≤ 2 ^ 62) (sym g) (omega arith); wide = λ z. subst (λ (y : ℤ). 8388608 * by ≤ natAbs y) (sym g) (omega arith); short = (let e = p .1 in omega arith) };
   cross = ap (λ (z : ℤ). shifted z t *ℤ pos (by * 2 ^ s)) g
-    ∙ ap (λ (z : ℤ). z *ℤ pos (by * 2 ^ s)) (sym (shifted-add m 38 t))
-    ∙ quotient-cross m a by s (38 + t) (omega arith) }
+      ∙ ap (λ (z : ℤ). z *ℤ pos (by * 2 ^ s)) (sym (shifted-add m 38 t))
+      ∙ quotient-cross m a by s (38 + t) (omega arith);
+}
 
 -- ---- the rest
 pub at-value : (v z : ℤ) → v ≡ z *ℤ pos 16777216 → ratio v 16777216 (lit< tt) ≈ whole z
@@ -145,7 +154,7 @@ le-value v w = leZ-times v w 16777216 (lit< tt)
 
 coarse-floor : (v : ℤ) → divEuclid (v *ℤ pos 65536) (pos 16777216) ≡ divEuclid v (pos 256)
 coarse-floor v = let p = floor-low v 256 (lit< tt) in let q = floor-next v 256 (lit< tt) in
-  floor-between (v *ℤ pos 65536) (divEuclid v (pos 256)) 16777216 (lit< tt) (omega (arith, ints)) (omega (arith, ints))
+    floor-between (v *ℤ pos 65536) (divEuclid v (pos 256)) 16777216 (lit< tt) (omega (arith, ints)) (omega (arith, ints))
 
 pub floor-value : (v : ℤ) → floor 65536 (ratio v 16777216 (lit< tt)) ≡ divEuclid v (pos 256)
 unfolding floor
@@ -219,16 +228,16 @@ module _ (a b : Sliding) (r : Option Sliding) (k n : ℤ) (by d t : ℕ) (some :
 
   pub div-below-pos : k ≡ a .mantissa → b .mantissa ≡ pos by → ((h : 0 < d) → r ≡ grid-below sliding-grid (units-over sliding-grid (shifted n t) d h)) → r ≡ quotient-below (sliding-model) a b
   div-below-pos e f p = below-ratio r _ _ d _ (s .held .positive) divisor (p (s .held .positive)) (cross-pos e)
-    ∙ quotient-below-pos sliding-grid sliding-lawful a b (by * 2 ^ b .scale) divisor (ap (λ (z : ℤ). shifted z (b .scale)) f)
+      ∙ quotient-below-pos sliding-grid sliding-lawful a b (by * 2 ^ b .scale) divisor (ap (λ (z : ℤ). shifted z (b .scale)) f)
 
   pub div-above-pos : k ≡ a .mantissa → b .mantissa ≡ pos by → ((h : 0 < d) → r ≡ grid-above sliding-grid (units-over sliding-grid (shifted n t) d h)) → r ≡ quotient-above (sliding-model) a b
   div-above-pos e f p = above-ratio r _ _ d _ (s .held .positive) divisor (p (s .held .positive)) (cross-pos e)
-    ∙ quotient-above-pos sliding-grid sliding-lawful a b (by * 2 ^ b .scale) divisor (ap (λ (z : ℤ). shifted z (b .scale)) f)
+      ∙ quotient-above-pos sliding-grid sliding-lawful a b (by * 2 ^ b .scale) divisor (ap (λ (z : ℤ). shifted z (b .scale)) f)
 
   pub div-below-neg : k ≡ negℤ (a .mantissa) → b .mantissa ≡ negℤ (pos by) → ((h : 0 < d) → r ≡ grid-below sliding-grid (units-over sliding-grid (shifted n t) d h)) → r ≡ quotient-below (sliding-model) a b
   div-below-neg e f p = below-ratio r _ _ d _ (s .held .positive) divisor (p (s .held .positive)) (cross-neg e)
-    ∙ quotient-below-neg sliding-grid sliding-lawful a b (by * 2 ^ b .scale) divisor (negate-shifted (b .mantissa) (pos by) (b .scale) f)
+      ∙ quotient-below-neg sliding-grid sliding-lawful a b (by * 2 ^ b .scale) divisor (negate-shifted (b .mantissa) (pos by) (b .scale) f)
 
   pub div-above-neg : k ≡ negℤ (a .mantissa) → b .mantissa ≡ negℤ (pos by) → ((h : 0 < d) → r ≡ grid-above sliding-grid (units-over sliding-grid (shifted n t) d h)) → r ≡ quotient-above (sliding-model) a b
   div-above-neg e f p = above-ratio r _ _ d _ (s .held .positive) divisor (p (s .held .positive)) (cross-neg e)
-    ∙ quotient-above-neg sliding-grid sliding-lawful a b (by * 2 ^ b .scale) divisor (negate-shifted (b .mantissa) (pos by) (b .scale) f)
+      ∙ quotient-above-neg sliding-grid sliding-lawful a b (by * 2 ^ b .scale) divisor (negate-shifted (b .mantissa) (pos by) (b .scale) f)

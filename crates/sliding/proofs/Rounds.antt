@@ -40,7 +40,7 @@ module _ (n : ℤ) (d : ℕ) (h : 0 < d) where
 
   raise : (t : ℕ) (z : ℤ) → z ≤ℤ divEuclid n (pos d) → Q t (shifted z t)
   raise t z p = subst (λ (y : ℤ). y ≤ℤ shifted n t) (swap z (pos d) (pos (2 ^ t)))
-    (≤ℤ-times (z *ℤ pos d) n (2 ^ t) (≤ℤ-trans (≤ℤ-times z (divEuclid n (pos d)) d p) (floor-low n d h)))
+      (≤ℤ-times (z *ℤ pos d) n (2 ^ t) (≤ℤ-trans (≤ℤ-times z (divEuclid n (pos d)) d p) (floor-low n d h)))
 
   lower : (t : ℕ) (z : ℤ) → Q t (shifted z t) → z ≤ℤ divEuclid n (pos d)
   lower t z q = floor-greatest n d h z (≤ℤ-cancel (z *ℤ pos d) n (2 ^ t) (pow-pos t) (subst (λ (y : ℤ). y ≤ℤ shifted n t) (sym (swap z (pos d) (pos (2 ^ t)))) q))
@@ -55,12 +55,12 @@ module _ (n : ℤ) (d : ℕ) (h : 0 < d) where
   first-coarse zero w = tt
   first-coarse (suc t) w = let p = w (omega arith) in by-ltZ n (pos 0)
       (λ g. inr (λ q.
-        let a : ((negℤ (pos 16777215) *ℤ pos d) *ℤ pos (2 ^ t)) ≤ℤ shifted (n *ℤ pos 2) t = subst (λ (y : ℤ). ((negℤ (pos 16777215) *ℤ pos d) *ℤ pos (2 ^ t)) ≤ℤ y) (shifted-suc n t) (subst (λ (y : ℤ). y ≤ℤ shifted n (suc t)) (swap (negℤ (pos 16777215)) (pos (2 ^ t)) (pos d)) q) in
-        let b = ≤ℤ-cancel (negℤ (pos 16777215) *ℤ pos d) (n *ℤ pos 2) (2 ^ t) (pow-pos t) a in omega (arith, ints)))
+      let a : ((negℤ (pos 16777215) *ℤ pos d) *ℤ pos (2 ^ t)) ≤ℤ shifted (n *ℤ pos 2) t = subst (λ (y : ℤ). ((negℤ (pos 16777215) *ℤ pos d) *ℤ pos (2 ^ t)) ≤ℤ y) (shifted-suc n t) (subst (λ (y : ℤ). y ≤ℤ shifted n (suc t)) (swap (negℤ (pos 16777215)) (pos (2 ^ t)) (pos d)) q) in
+      let b = ≤ℤ-cancel (negℤ (pos 16777215) *ℤ pos d) (n *ℤ pos 2) (2 ^ t) (pow-pos t) a in omega (arith, ints)))
       (λ g. inl (
-        let a : (pos 16777216 *ℤ pos d) ≤ℤ (n *ℤ pos 2) = omega (arith, ints) in
-        let b = ≤ℤ-times (pos 16777216 *ℤ pos d) (n *ℤ pos 2) (2 ^ t) a in
-        subst (λ (y : ℤ). (shifted (pos 16777216) t *ℤ pos d) ≤ℤ y) (sym (shifted-suc n t)) (subst (λ (y : ℤ). y ≤ℤ shifted (n *ℤ pos 2) t) (swap (pos 16777216) (pos d) (pos (2 ^ t))) b)))
+      let a : (pos 16777216 *ℤ pos d) ≤ℤ (n *ℤ pos 2) = omega (arith, ints) in
+      let b = ≤ℤ-times (pos 16777216 *ℤ pos d) (n *ℤ pos 2) (2 ^ t) a in
+      subst (λ (y : ℤ). (shifted (pos 16777216) t *ℤ pos d) ≤ℤ y) (sym (shifted-suc n t)) (subst (λ (y : ℤ). y ≤ℤ shifted (n *ℤ pos 2) t) (swap (pos 16777216) (pos d) (pos (2 ^ t))) b)))
 
   more-coarse : (t u : ℕ) → (0 < t → 8388608 * d ≤ natAbs n) → Coarse (NotAbove (divEuclid n (pos d))) u → Coarse (Q t) (u + t)
   more-coarse t zero w c = let e : t ≡ 0 + t = omega arith in subst (Coarse (Q t)) e (first-coarse t w)
@@ -71,11 +71,12 @@ module _ (n : ℤ) (d : ℕ) (h : 0 < d) where
   ratio-cell t u m w c = record {
     low = raise-at t m u (c .low);
     high = λ q. c .high (lower-at t (m +ℤ pos 1) u q);
-    coarse = more-coarse t u w (c .coarse) }
+    coarse = more-coarse t u w (c .coarse);
+  }
 
   pub rounds-some : (t : ℕ) (k : Sliding) → Cell (Q t) (k .mantissa) (k .scale) → shifted n t ≤ℤ (pos 72057589742960640 *ℤ pos d) → Some k ≡ grid-below sliding-grid (units-over sliding-grid (shifted n t) d h)
   rounds-some t k c i = ratio-some sliding-grid sliding-lawful (shifted n t) d h k (c .low) i
-    (λ a p. settled (Q t) (q-down t) (k .mantissa) (k .scale) c (a .mantissa) (a .scale) (a .normal .0) p)
+      (λ a p. settled (Q t) (q-down t) (k .mantissa) (k .scale) c (a .mantissa) (a .scale) (a .normal .0) p)
 
   pub rounds-over : (t : ℕ) → (pos 72057589742960640 *ℤ pos d) <ℤ shifted n t → None ≡ grid-below sliding-grid (units-over sliding-grid (shifted n t) d h)
   rounds-over t i = ratio-none-over sliding-grid sliding-lawful (shifted n t) d h i
@@ -86,16 +87,17 @@ module _ (n : ℤ) (d : ℕ) (h : 0 < d) where
     where
       w : 2 ^ 32 ≤ 2 ^ s
       w = pow-mono {i = 32} {j = s} (omega arith)
+
       go : Coarse (Q t) (suc s) → None ≡ grid-below sliding-grid (units-over sliding-grid (shifted n t) d h)
       go (inl p) = rounds-over t (let q = q-down t (pos 72057589742960641) (shifted (pos 16777216) s) (omega (arith, ints, w)) p in omega (arith, ints))
       go (inr f) = by-ltZ (shifted n t) (negℤ (pos 72057589742960640) *ℤ pos d)
-        (λ i. ratio-none-under sliding-grid sliding-lawful (shifted n t) d h i)
-        (λ i. absurd (f (q-down t (shifted (negℤ (pos 16777215)) s) (negℤ (pos 72057589742960640)) (omega (arith, ints, w)) i)))
+          (λ i. ratio-none-under sliding-grid sliding-lawful (shifted n t) d h i)
+          (λ i. absurd (f (q-down t (shifted (negℤ (pos 16777215)) s) (negℤ (pos 72057589742960640)) (omega (arith, ints, w)) i)))
 
   pub inside-small : (t : ℕ) (m : ℤ) (s : ℕ) → Cell (Q t) m s → natAbs m ≤ 16777215 → s ≤ 32 → shifted m s <ℤ pos 72057589742960640 → shifted n t ≤ℤ (pos 72057589742960640 *ℤ pos d)
   inside-small t m s c a b e = by-ltZ (pos 72057589742960640 *ℤ pos d) (shifted n t)
-    (λ i. let z = settled (Q t) (q-down t) m s c (pos 16777215) 32 (omega arith) (omega (arith, ints)) in absurd (omega (arith, ints)))
-    (λ i. i)
+      (λ i. let z = settled (Q t) (q-down t) m s c (pos 16777215) 32 (omega arith) (omega (arith, ints)) in absurd (omega (arith, ints)))
+      (λ i. i)
 
 pub small-scale : (m : ℤ) (s : ℕ) → natAbs m ≤ 16777215 → s < 32 → shifted m s <ℤ pos 72057589742960640
 small-scale m s a b = let k = shifted-bound m s 31 16777215 a (omega arith) in omega (arith, ints)

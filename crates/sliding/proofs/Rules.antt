@@ -43,21 +43,21 @@ abs-shifted (negsuc m) s = omega (arith, ints)
 same-scale : (m n : ℤ) (s j : ℕ) → Normal m s → Normal n (s + j) → shifted m s ≡ shifted n (s + j) → j ≡ 0
 same-scale m n s zero p q e = refl
 same-scale m n s (suc j) p q e =
-  let f : m ≡ shifted n (suc j) = cancel m (shifted n (suc j)) (2 ^ s) (pow-pos s) (e ∙ ap (shifted n) (omega arith) ∙ shifted-add n (suc j) s) in
-  let g : natAbs m ≡ natAbs n * 2 ^ suc j = ap natAbs f ∙ abs-shifted n (suc j) in
-  let k = q .2 (omega arith) in
-  let w : 2 ^ 1 ≤ 2 ^ suc j = pow-mono {i = 1} {j = suc j} (omega arith) in
-  absurd (over (natAbs m) (natAbs n) (2 ^ suc j) g k w (p .0))
+    let f : m ≡ shifted n (suc j) = cancel m (shifted n (suc j)) (2 ^ s) (pow-pos s) (e ∙ ap (shifted n) (omega arith) ∙ shifted-add n (suc j) s) in
+    let g : natAbs m ≡ natAbs n * 2 ^ suc j = ap natAbs f ∙ abs-shifted n (suc j) in
+    let k = q .2 (omega arith) in
+    let w : 2 ^ 1 ≤ 2 ^ suc j = pow-mono {i = 1} {j = suc j} (omega arith) in
+    absurd (over (natAbs m) (natAbs n) (2 ^ suc j) g k w (p .0))
   where
     over : (a b c : ℕ) → a ≡ b * c → 8388608 ≤ b → 2 ≤ c → a ≤ 16777215 → ⊥
     over a b c e p q r = omega (arith, mul-le-mul p q)
 
 ordered : (a b : Sliding) → a .scale ≤ b .scale → shifted (a .mantissa) (a .scale) ≡ shifted (b .mantissa) (b .scale) → a ≡ b
 ordered a b h e =
-  let f : b .scale ≡ a .scale + (b .scale - a .scale) = omega arith in
-  let z = same-scale (a .mantissa) (b .mantissa) (a .scale) (b .scale - a .scale) (a .normal) (subst (Normal (b .mantissa)) f (b .normal)) (e ∙ ap (shifted (b .mantissa)) f) in
-  let g : b .scale ≡ a .scale = omega arith in
-  same-mark a b (cancel (a .mantissa) (b .mantissa) (2 ^ a .scale) (pow-pos (a .scale)) (e ∙ ap (shifted (b .mantissa)) g)) (sym g)
+    let f : b .scale ≡ a .scale + (b .scale - a .scale) = omega arith in
+    let z = same-scale (a .mantissa) (b .mantissa) (a .scale) (b .scale - a .scale) (a .normal) (subst (Normal (b .mantissa)) f (b .normal)) (e ∙ ap (shifted (b .mantissa)) f) in
+    let g : b .scale ≡ a .scale = omega arith in
+    same-mark a b (cancel (a .mantissa) (b .mantissa) (2 ^ a .scale) (pow-pos (a .scale)) (e ∙ ap (shifted (b .mantissa)) g)) (sym g)
 
 pub distinct : (a b : Sliding) → shifted (a .mantissa) (a .scale) ≡ shifted (b .mantissa) (b .scale) → a ≡ b
 distinct a b e = go (le-or (a .scale) (b .scale))
@@ -122,8 +122,12 @@ found k lo hi = search-down k 33 k 0 refl (start k) lo hi
 
 nearest : (k : ℤ) → negℤ (shifted (pos 16777215) 32) ≤ℤ k → k ≤ℤ shifted (pos 16777215) 32 → Nearest sliding-grid k
 nearest k lo hi = let f = found k lo hi in
-  record { mark = f .mark; found = f .is; low = f .cell .low;
-    most = λ a p. settled (λ z. z ≤ℤ k) (λ x y h q. ≤ℤ-trans h q) (f .mark .mantissa) (f .mark .scale) (f .cell) (a .mantissa) (a .scale) (a .normal .0) p }
+    record {
+      mark = f .mark;
+      found = f .is;
+      low = f .cell .low;
+      most = λ a p. settled (λ z. z ≤ℤ k) (λ x y h q. ≤ℤ-trans h q) (f .mark .mantissa) (f .mark .scale) (f .cell) (a .mantissa) (a .scale) (a .normal .0) p;
+    }
 
 greatest : (a : Sliding) → shifted (a .mantissa) (a .scale) ≤ℤ shifted (pos 16777215) 32
 greatest a = let b = shifted-bound (a .mantissa) (a .scale) 32 16777215 (a .normal .0) (a .normal .1) in omega (arith, ints)
@@ -136,7 +140,8 @@ sliding-lawful = record {
   distinct = distinct;
   greatest = greatest;
   bounded = leZ-yes tt;
-  nearest = nearest }
+  nearest = nearest;
+}
 
 pub sliding-rules : Rules (sliding-model)
 sliding-rules = grid-rules sliding-grid sliding-lawful

@@ -46,12 +46,13 @@ module _ (P : ℤ → Type 0) (down : (a b : ℤ) → a ≤ℤ b → P b → P a
   -- half the size at the next scale
   pub step : (m : ℤ) (s : ℕ) → Cell P m s → 16777216 ≤ natAbs m → Cell P (divEuclid m (pos 2)) (suc s)
   step m s c h = let p = floor-low m 2 (omega arith) in let q = floor-next m 2 (omega arith) in
-    record {
-      low = up-one (divEuclid m (pos 2)) s (by (divEuclid m (pos 2) *ℤ pos 2) m s p (c .low));
-      high = λ e. c .high (by (m +ℤ pos 1) ((divEuclid m (pos 2) +ℤ pos 1) *ℤ pos 2) s (omega (arith, ints)) (down-one (divEuclid m (pos 2) +ℤ pos 1) s e));
-      coarse = by-ltZ m (pos 0)
-        (λ n. inr (λ e. c .high (by (m +ℤ pos 1) (negℤ (pos 16777215)) s (omega (arith, ints)) e)))
-        (λ n. inl (by (pos 16777216) m s (omega (arith, ints)) (c .low))) }
+      record {
+        low = up-one (divEuclid m (pos 2)) s (by (divEuclid m (pos 2) *ℤ pos 2) m s p (c .low));
+        high = λ e. c .high (by (m +ℤ pos 1) ((divEuclid m (pos 2) +ℤ pos 1) *ℤ pos 2) s (omega (arith, ints)) (down-one (divEuclid m (pos 2) +ℤ pos 1) s e));
+        coarse = by-ltZ m (pos 0)
+            (λ n. inr (λ e. c .high (by (m +ℤ pos 1) (negℤ (pos 16777215)) s (omega (arith, ints)) e)))
+            (λ n. inl (by (pos 16777216) m s (omega (arith, ints)) (c .low)));
+      }
 
   -- 24 bits unless s = 0
   pub full : (m : ℤ) (s : ℕ) → Cell P m s → 0 < s → 8388608 ≤ natAbs m
@@ -61,8 +62,8 @@ module _ (P : ℤ → Type 0) (down : (a b : ℤ) → a ≤ℤ b → P b → P a
       go : Coarse P (suc t) → 8388608 ≤ natAbs m
       go (inl p) = let k = under-high m (suc t) c (pos 8388608) (up-one (pos 8388608) t p) in omega (arith, ints)
       go (inr n) = by-ltZ (negsuc 8388607) m
-        (λ k. absurd (n (by (negℤ (pos 16777215)) (m *ℤ pos 2) t (omega (arith, ints)) (down-one m t (c .low)))))
-        (λ k. omega (arith, ints))
+          (λ k. absurd (n (by (negℤ (pos 16777215)) (m *ℤ pos 2) t (omega (arith, ints)) (down-one m t (c .low)))))
+          (λ k. omega (arith, ints))
 
   -- no mark is between
   pub settled : (m : ℤ) (s : ℕ) → Cell P m s → (m' : ℤ) (s' : ℕ) → natAbs m' ≤ 16777215 → P (shifted m' s') → shifted m' s' ≤ℤ shifted m s
@@ -76,17 +77,20 @@ module _ (P : ℤ → Type 0) (down : (a b : ℤ) → a ≤ℤ b → P b → P a
             where
               w : natAbs (shifted m' s') ≤ 16777215 * 2 ^ t
               w = shifted-bound m' s' t 16777215 b q
+
               sides : Coarse P (suc t) → shifted m' s' ≤ℤ shifted m s
               sides (inl r) =
-                let k = under-high m (suc t) d (pos 8388608) (up-one (pos 8388608) t r) in
-                let j : shifted (pos 16777216) t ≤ℤ shifted (m *ℤ pos 2) t = ≤ℤ-times (pos 16777216) (m *ℤ pos 2) (2 ^ t) (omega (arith, ints)) in
-                let i : shifted m' s' ≤ℤ shifted (pos 16777216) t = omega (arith, ints, w) in
-                subst (λ (z : ℤ). shifted m' s' ≤ℤ z) (sym (shifted-suc m t) ∙ f) (≤ℤ-trans i j)
+                  let k = under-high m (suc t) d (pos 8388608) (up-one (pos 8388608) t r) in
+                  let j : shifted (pos 16777216) t ≤ℤ shifted (m *ℤ pos 2) t = ≤ℤ-times (pos 16777216) (m *ℤ pos 2) (2 ^ t) (omega (arith, ints)) in
+                  let i : shifted m' s' ≤ℤ shifted (pos 16777216) t = omega (arith, ints, w) in
+                  subst (λ (z : ℤ). shifted m' s' ≤ℤ z) (sym (shifted-suc m t) ∙ f) (≤ℤ-trans i j)
               sides (inr n) = absurd (n (down (shifted (negℤ (pos 16777215)) t) (shifted m' s') (omega (arith, ints, w)) p))
+
       coarser : (j : ℕ) → s' ≡ j + s → shifted m' s' ≤ℤ shifted m s
       coarser j e =
-        let f : shifted m' s' ≡ shifted (shifted m' j) s = ap (shifted m') e ∙ shifted-add m' j s in
-        rw f (≤ℤ-times (shifted m' j) m (2 ^ s) (under-high m s c (shifted m' j) (subst P f p)))
+          let f : shifted m' s' ≡ shifted (shifted m' j) s = ap (shifted m') e ∙ shifted-add m' j s in
+          rw f (≤ℤ-times (shifted m' j) m (2 ^ s) (under-high m s c (shifted m' j) (subst P f p)))
+
       go : (s ≤ s') ⊎ (s' ≤ s) → shifted m' s' ≤ℤ shifted m s
       go (inl q) = coarser (s' - s) (omega arith)
       go (inr q) = case (s - s') refl

@@ -33,13 +33,14 @@ stored-none m s k = go (normal? m s) (normal-yes m s)
 
 held : (m : ℤ) (s : ℕ) → natAbs m ≤ 16777215 → s ≤ 32 → (a : Sliding) × (shifted (a .mantissa) (a .scale) ≡ shifted m s)
 held m s p q =
-  let b = shifted-bound m s 32 16777215 p q in
-  let f = found (shifted m s) (omega (arith, ints)) (omega (arith, ints)) in
-  let u = settled (NotAbove (shifted m s)) (λ x y h z. ≤ℤ-trans h z) (f .mark .mantissa) (f .mark .scale) (f .cell) m s p (omega (arith, ints)) in
-  let l : shifted (f .mark .mantissa) (f .mark .scale) ≤ℤ shifted m s = f .cell .low in
-  (f .mark, omega (arith, ints))
+    let b = shifted-bound m s 32 16777215 p q in
+    let f = found (shifted m s) (omega (arith, ints)) (omega (arith, ints)) in
+    let u = settled (NotAbove (shifted m s)) (λ x y h z. ≤ℤ-trans h z) (f .mark .mantissa) (f .mark .scale) (f .cell) m s p (omega (arith, ints)) in
+    let l : shifted (f .mark .mantissa) (f .mark .scale) ≤ℤ shifted m s = f .cell .low in
+    (f .mark, omega (arith, ints))
 
 pub sliding-marks : Sliding-marks
 sliding-marks = record {
   each = λ m s p q. let a = held m s p q in (a .0, record { cross = ap (λ (z : ℤ). z *ℤ pos 16777216) (a .1) });
-  only = λ a. (a .mantissa, a .scale, a .normal, record { cross = refl }) }
+  only = λ a. (a .mantissa, a .scale, a .normal, record { cross = refl });
+}

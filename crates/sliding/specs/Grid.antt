@@ -31,8 +31,8 @@ other false b h n = h
 
 pub normal-yes : (m : ℤ) (s : ℕ) → T (normal? m s) → Normal m s
 normal-yes m s h =
-  let p = both _ _ h in let q = both _ _ (p .1) in
-  (leb→le _ _ (p .0), leb→le _ _ (q .0), λ k. leb→le _ _ (other _ _ (q .1) (λ t. let z = leb→le s 0 t in omega arith)))
+    let p = both _ _ h in let q = both _ _ (p .1) in
+    (leb→le _ _ (p .0), leb→le _ _ (q .0), λ k. leb→le _ _ (other _ _ (q .1) (λ t. let z = leb→le s 0 t in omega arith)))
 
 pub abs-negative : (m : ℤ) → natAbs (negℤ m) ≡ natAbs m
 abs-negative m = omega (arith, ints)
@@ -62,7 +62,8 @@ sliding-grid = record {
   nought = mark (pos 0) 0 (lit≤ tt, lit≤ tt, λ h. absurd (omega (arith, h)));
   one = mark (pos 8388608) 1 (lit≤ tt, lit≤ tt, λ _. lit≤ tt);
   minus = λ a. mark (negℤ (a .mantissa)) (a .scale) (normal-negative (a .mantissa) (a .scale) (a .normal));
-  down = λ k. slide 33 k 0 }
+  down = λ k. slide 33 k 0;
+}
 
 abbrev pub sliding-model : Model Sliding
 sliding-model = grid-model sliding-grid

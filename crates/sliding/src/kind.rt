@@ -47,11 +47,17 @@ pub impl NumberKind for Sliding as SlidingKind {
     ghost model = { sliding-model };
 
     fn zero() -> Sliding {
-        Sliding { mantissa: 0, scale: 0 }
+        Sliding {
+            mantissa: 0,
+            scale: 0,
+        }
     }
 
     fn one() -> Sliding {
-        Sliding { mantissa: 8_388_608, scale: 1 }
+        Sliding {
+            mantissa: 8_388_608,
+            scale: 1,
+        }
     }
 
     fn at_most(self, other: Sliding) -> bool {
@@ -59,15 +65,26 @@ pub impl NumberKind for Sliding as SlidingKind {
     }
 
     fn negated(self) -> Sliding {
-        Sliding { mantissa: -self.mantissa, scale: self.scale }
+        Sliding {
+            mantissa: -self.mantissa,
+            scale: self.scale,
+        }
     }
 
     fn sum_below(self, other: Sliding) -> Option<Sliding> {
-        shift_below(Shift { n: scaled(self.mantissa, self.scale) + scaled(other.mantissa, other.scale), j: 0, t: 0 })
+        shift_below(Shift {
+            n: scaled(self.mantissa, self.scale) + scaled(other.mantissa, other.scale),
+            j: 0,
+            t: 0,
+        })
     }
 
     fn sum_above(self, other: Sliding) -> Option<Sliding> {
-        shift_above(Shift { n: scaled(self.mantissa, self.scale) + scaled(other.mantissa, other.scale), j: 0, t: 0 })
+        shift_above(Shift {
+            n: scaled(self.mantissa, self.scale) + scaled(other.mantissa, other.scale),
+            j: 0,
+            t: 0,
+        })
     }
 
     fn product_below(self, other: Sliding) -> Option<Sliding> {
@@ -83,9 +100,19 @@ pub impl NumberKind for Sliding as SlidingKind {
             return None;
         }
         if other.mantissa < 0 {
-            return round_below(quotient(-self.mantissa, self.scale, (-other.mantissa) as u32, other.scale));
+            return round_below(quotient(
+                -self.mantissa,
+                self.scale,
+                (-other.mantissa) as u32,
+                other.scale,
+            ));
         }
-        round_below(quotient(self.mantissa, self.scale, other.mantissa as u32, other.scale))
+        round_below(quotient(
+            self.mantissa,
+            self.scale,
+            other.mantissa as u32,
+            other.scale,
+        ))
     }
 
     fn quotient_above(self, other: Sliding) -> Option<Sliding> {
@@ -93,17 +120,35 @@ pub impl NumberKind for Sliding as SlidingKind {
             return None;
         }
         if other.mantissa < 0 {
-            return round_above(quotient(-self.mantissa, self.scale, (-other.mantissa) as u32, other.scale));
+            return round_above(quotient(
+                -self.mantissa,
+                self.scale,
+                (-other.mantissa) as u32,
+                other.scale,
+            ));
         }
-        round_above(quotient(self.mantissa, self.scale, other.mantissa as u32, other.scale))
+        round_above(quotient(
+            self.mantissa,
+            self.scale,
+            other.mantissa as u32,
+            other.scale,
+        ))
     }
 
     fn count_below(n: i32) -> Option<Sliding> {
-        shift_below(Shift { n: n as i64 * 256, j: 0, t: 0 })
+        shift_below(Shift {
+            n: n as i64 * 256,
+            j: 0,
+            t: 0,
+        })
     }
 
     fn count_above(n: i32) -> Option<Sliding> {
-        shift_above(Shift { n: n as i64 * 256, j: 0, t: 0 })
+        shift_above(Shift {
+            n: n as i64 * 256,
+            j: 0,
+            t: 0,
+        })
     }
 
     fn floor(self) -> i64 {

@@ -38,9 +38,15 @@ fn settle(k: i64) -> Settled
     let scale = scale_of(k);
     let size = k >> scale;
     if size < -LARGEST {
-        return Settled { mantissa: -8_388_608, scale: scale + 1 };
+        return Settled {
+            mantissa: -8_388_608,
+            scale: scale + 1,
+        };
     }
-    Settled { mantissa: size as i32, scale }
+    Settled {
+        mantissa: size as i32,
+        scale,
+    }
 }
 
 // size × 2^scale
@@ -70,7 +76,10 @@ fn finish(q: Ratio, k: i64) -> Option<Sliding>
     if scale > 32 {
         return None;
     }
-    let mark = Sliding { mantissa: s.mantissa, scale };
+    let mark = Sliding {
+        mantissa: s.mantissa,
+        scale,
+    };
     if scale < 32 {
         return Some(mark);
     }
@@ -96,7 +105,14 @@ pub fn shift_below(q: Shift) -> Option<Sliding>
     requires { ⌜ Held (q .n) (2 ^ q .j) (q .t) ⌝ ∗ ⌜ q .j ≤ 24 ⌝ }
     ensures { λ r. ⌜ ((h : 0 < 2 ^ q .j) → r ≡ grid-below sliding-grid (units-over sliding-grid (shifted (q .n) (q .t)) (2 ^ q .j) h)) ⌝ }
 {
-    finish(Ratio { n: q.n, d: 1 << q.j, t: q.t }, q.n >> q.j)
+    finish(
+        Ratio {
+            n: q.n,
+            d: 1 << q.j,
+            t: q.t,
+        },
+        q.n >> q.j,
+    )
 }
 
 // The least mark not below the shifted number.
@@ -104,8 +120,15 @@ pub fn shift_above(q: Shift) -> Option<Sliding>
     requires { ⌜ Held (q .n) (2 ^ q .j) (q .t) ⌝ ∗ ⌜ q .j ≤ 24 ⌝ }
     ensures { λ r. ⌜ ((h : 0 < 2 ^ q .j) → r ≡ grid-above sliding-grid (units-over sliding-grid (shifted (q .n) (q .t)) (2 ^ q .j) h)) ⌝ }
 {
-    match shift_below(Shift { n: -q.n, j: q.j, t: q.t }) {
-        Some(k) => Some(Sliding { mantissa: -k.mantissa, scale: k.scale }),
+    match shift_below(Shift {
+        n: -q.n,
+        j: q.j,
+        t: q.t,
+    }) {
+        Some(k) => Some(Sliding {
+            mantissa: -k.mantissa,
+            scale: k.scale,
+        }),
         None => None,
     }
 }
@@ -123,8 +146,15 @@ pub fn round_above(q: Ratio) -> Option<Sliding>
     requires { ⌜ Held (q .n) (q .d) (q .t) ⌝ }
     ensures { λ r. ⌜ ((h : 0 < q .d) → r ≡ grid-above sliding-grid (units-over sliding-grid (shifted (q .n) (q .t)) (q .d) h)) ⌝ }
 {
-    match round_below(Ratio { n: -q.n, d: q.d, t: q.t }) {
-        Some(k) => Some(Sliding { mantissa: -k.mantissa, scale: k.scale }),
+    match round_below(Ratio {
+        n: -q.n,
+        d: q.d,
+        t: q.t,
+    }) {
+        Some(k) => Some(Sliding {
+            mantissa: -k.mantissa,
+            scale: k.scale,
+        }),
         None => None,
     }
 }
@@ -151,11 +181,23 @@ pub fn quotient(size: i32, scale: u32, by: u32, s: u32) -> Ratio
     ensures { λ r. ⌜ Stands (shifted size scale *ℤ pos 16777216) (by * 2 ^ s) (r .n) (r .d) (r .t) ⌝ }
 {
     if s > scale + 24 {
-        return Ratio { n: size as i64, d: by << (s - scale - 24), t: 0 };
+        return Ratio {
+            n: size as i64,
+            d: by << (s - scale - 24),
+            t: 0,
+        };
     }
     let j = scale + 24 - s;
     if j <= 38 {
-        return Ratio { n: scaled(size, j), d: by, t: 0 };
+        return Ratio {
+            n: scaled(size, j),
+            d: by,
+            t: 0,
+        };
     }
-    Ratio { n: scaled(size, 38), d: by, t: j - 38 }
+    Ratio {
+        n: scaled(size, 38),
+        d: by,
+        t: j - 38,
+    }
 }

@@ -58,13 +58,12 @@ module _ {K : Type 0} (m : Model K) where
 
   -- a record of an operation on spans: U and U0 are its results, and U0 is there where U is
   module _ (place : ℕ) (U U0 : Option (Span K)) (slopes : Span K → Option (Slopes K)) (h x y : Frac)
-    (within : (w : Span K) → U ≡ Some w → Inner m U0 w)
-    (at : (w : Span K) → U ≡ Some w → Held m w x) (centre : (w : Span K) → U0 ≡ Some w → Held m w y)
-    (ok : (w w0 : Span K) → U ≡ Some w → U0 ≡ Some w0 → Sloped? m h x y (slopes w0)) where
-
+      (within : (w : Span K) → U ≡ Some w → Inner m U0 w)
+      (at : (w : Span K) → U ≡ Some w → Held m w x) (centre : (w : Span K) → U0 ≡ Some w → Held m w y)
+      (ok : (w w0 : Span K) → U ≡ Some w → U0 ≡ Some w0 → Sloped? m h x y (slopes w0)) where
     made : (w : Span K) → U ≡ Some w → Told m U h x y (given place (U0 >>= (λ u0. Some (rec w u0 (slopes u0)))))
     made w e = let i = within w e in subst (λ o. Told m U h x y (given place (o >>= (λ u0. Some (rec w u0 (slopes u0)))))) (sym (i .there))
-      (record { here = at w e; centre = centre (i .span) (i .there); nested = i .within; slopes = ok w (i .span) e (i .there) })
+        (record { here = at w e; centre = centre (i .span) (i .there); nested = i .within; slopes = ok w (i .span) e (i .there) })
 
     pub told : Told m U h x y (given place (U >>= (λ u. U0 >>= (λ u0. Some (rec u u0 (slopes u0))))))
     told = go U refl

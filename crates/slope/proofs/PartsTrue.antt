@@ -23,19 +23,42 @@ use Rattle.span.specs.Spans as spans
 
 module _ {K : Type 0} (m : Model K) (rules : Rules m) where
   pub swept-true : (X X0 : Span K) (x x0 h : Frac) → (x -F x0) ≈ h → Held m X x → Held m X0 x0 → Within m X0 X → True m (swept m X X0) h x x0
-  swept-true X X0 x x0 h e i i0 w = record { here = i; centre = i0; nested = w; slopes = record { a = _; b = _; c = _;
-    a-in = one-in m rules; b-in = one-in m rules; c-in = zero-in m rules; slope = swept-slope e } }
+  swept-true X X0 x x0 h e i i0 w = record {
+    here = i;
+    centre = i0;
+    nested = w;
+    slopes = record {
+      a = _;
+      b = _;
+      c = _;
+      a-in = one-in m rules;
+      b-in = one-in m rules;
+      c-in = zero-in m rules;
+      slope = swept-slope e;
+    };
+  }
 
   pub still-true : (X : Span K) (x h : Frac) → Held m X x → True m (still m X) h x x
-  still-true X x h i = record { here = i; centre = i; nested = within-refl m X; slopes = record { a = _; b = _; c = _;
-    a-in = zero-in m rules; b-in = zero-in m rules; c-in = zero-in m rules; slope = still-slope (≈-refl x) } }
+  still-true X x h i = record {
+    here = i;
+    centre = i;
+    nested = within-refl m X;
+    slopes = record {
+      a = _;
+      b = _;
+      c = _;
+      a-in = zero-in m rules;
+      b-in = zero-in m rules;
+      c-in = zero-in m rules;
+      slope = still-slope (≈-refl x);
+    };
+  }
 
   -- ---- part by part, by an operation on spans that encloses and is monotone
   module _ (f : Frac → Frac → Frac) (F : Span K → Span K → Option (Span K))
-    (holds : (s t p : Span K) (a b : Frac) → F s t ≡ Some p → Held m s a → Held m t b → Held m p (f a b))
-    (nested : (s t s′ t′ w : Span K) → Ordered m s → Ordered m t → Ordered m s′ → Ordered m t′ → Within m s′ s → Within m t′ t → F s t ≡ Some w → Inner m (F s′ t′) w)
-    (linear : (h u u0 v v0 au bu cu av bv cv : Frac) → Slope h u u0 au bu cu → Slope h v v0 av bv cv → Slope h (f u v) (f u0 v0) (f au av) (f bu bv) (f cu cv)) where
-
+      (holds : (s t p : Span K) (a b : Frac) → F s t ≡ Some p → Held m s a → Held m t b → Held m p (f a b))
+      (nested : (s t s′ t′ w : Span K) → Ordered m s → Ordered m t → Ordered m s′ → Ordered m t′ → Within m s′ s → Within m t′ t → F s t ≡ Some w → Inner m (F s′ t′) w)
+      (linear : (h u u0 v v0 au bu cu av bv cv : Frac) → Slope h u u0 au bu cu → Slope h v v0 av bv cv → Slope h (f u v) (f u0 v0) (f au av) (f bu bv) (f cu cv)) where
     parts-kept : (place : ℕ) (p q : Record K) → Kept m f (F (p .u) (q .u)) p q (given place (parts F p q))
     parts-kept place p q h u u0 v v0 tp tq = told m place (F (p .u) (q .u)) (F (p .u0) (q .u0)) (λ _. part-slopes F p q) h (f u v) (f u0 v0)
         (λ w e. nested _ _ _ _ w (ordered-u m p h u u0 tp) (ordered-u m q h v v0 tq) (ordered-u0 m p h u u0 tp) (ordered-u0 m q h v v0 tq) (tp .nested) (tq .nested) e)
@@ -43,10 +66,11 @@ module _ {K : Type 0} (m : Model K) (rules : Rules m) where
       where
         P : Option (Slopes K) → Type 0
         P = Sloped? m h (f u v) (f u0 v0)
+
         slopes : P (part-slopes F p q)
         slopes = step P _ _ tt (λ s es. step P _ _ tt (λ t et. step P _ _ tt (λ a ea. step P _ _ tt (λ b eb. step P _ _ tt (λ c ec.
-          let S = sloped m p h u u0 tp s es in let T = sloped m q h v v0 tq t et in
-          slopes-of m a b c (holds _ _ a _ _ ea (S .a-in) (T .a-in)) (holds _ _ b _ _ eb (S .b-in) (T .b-in)) (holds _ _ c _ _ ec (S .c-in) (T .c-in))
+            let S = sloped m p h u u0 tp s es in let T = sloped m q h v v0 tq t et in
+            slopes-of m a b c (holds _ _ a _ _ ea (S .a-in) (T .a-in)) (holds _ _ b _ _ eb (S .b-in) (T .b-in)) (holds _ _ c _ _ ec (S .c-in) (T .c-in))
             (linear _ _ _ _ _ _ _ _ _ _ _ (S .slope) (T .slope)))))))
 
   pub sum-kept : (place : ℕ) (p q : Record K) → Kept m _+F_ (spans.sum m (p .u) (q .u)) p q (given place (sum m p q))

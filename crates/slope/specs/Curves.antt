@@ -22,9 +22,9 @@ module _ {K : Type 0} (m : Model K) where
   -- ---- A = G × Au; B = E × Bu; C = G × Cu + (K × Au) × Bu
   abbrev pub lift-slopes : Shape K → Option (Slopes K) → Option (Slopes K)
   lift-slopes f o = o >>= (λ s.
-    spans.product m (f .g) (s .a) >>= (λ a. spans.product m (f .e) (s .b) >>= (λ b.
-    spans.product m (f .g) (s .c) >>= (λ c1. spans.product m (f .k) (s .a) >>= (λ c2. spans.product m c2 (s .b) >>= (λ c3.
-    spans.sum m c1 c3 >>= (λ c. three a b c)))))))
+      spans.product m (f .g) (s .a) >>= (λ a. spans.product m (f .e) (s .b) >>= (λ b.
+      spans.product m (f .g) (s .c) >>= (λ c1. spans.product m (f .k) (s .a) >>= (λ c2. spans.product m c2 (s .b) >>= (λ c3.
+      spans.sum m c1 c3 >>= (λ c. three a b c)))))))
 
   abbrev pub lift : (Span K → Option (Span K)) → (Span K → Span K → Option (Shape K)) → Record K → Option (Record K)
   lift image bend p = image (p .u) >>= (λ u. image (p .u0) >>= (λ u0. Some (rec u u0 (bend (p .u) (p .u0) >>= (λ f. lift-slopes f (p .slopes))))))
@@ -52,10 +52,10 @@ module _ {K : Type 0} (m : Model K) where
   -- E = [−1]; G from −1 to the upper end of ([q] + [s]) / ([q] − [s]); K from 0 to the upper end of [1] / ([−s] + [−s])
   abbrev pub left-row : K → K → Option (Shape K)
   left-row q s =
-    spans.sum m (spans.point m q) (spans.point m s) >>= (λ n. spans.difference m (spans.point m q) (spans.point m s) >>= (λ d.
-    spans.quotient m n d >>= (λ g.
-    spans.sum m (spans.point m (m .opposite s)) (spans.point m (m .opposite s)) >>= (λ t. spans.quotient m (spans.one-span m) t >>= (λ k.
-    Some record { e = spans.point m minus-one; g = spans.span m minus-one (g .upper); k = spans.span m (m .nought) (k .upper) })))))
+      spans.sum m (spans.point m q) (spans.point m s) >>= (λ n. spans.difference m (spans.point m q) (spans.point m s) >>= (λ d.
+      spans.quotient m n d >>= (λ g.
+      spans.sum m (spans.point m (m .opposite s)) (spans.point m (m .opposite s)) >>= (λ t. spans.quotient m (spans.one-span m) t >>= (λ k.
+      Some record { e = spans.point m minus-one; g = spans.span m minus-one (g .upper); k = spans.span m (m .nought) (k .upper) })))))
 
   -- E and G negated
   abbrev pub turned : Option (Shape K) → Option (Shape K)
@@ -64,9 +64,9 @@ module _ {K : Type 0} (m : Model K) where
   -- with ends p, q of U and r, s of U0, the first row that fits: q ≤ 0; p ≥ 0; s < 0; r > 0; otherwise
   abbrev pub magnitude-shape : Span K → Span K → Option (Shape K)
   magnitude-shape u u0 =
-    cond (spans.to-zero m (u .upper)) (Some falling)
-    (cond (spans.from-zero m (u .lower)) (Some rising)
-    (cond (spans.from-zero m (u0 .upper))
+      cond (spans.to-zero m (u .upper)) (Some falling)
+      (cond (spans.from-zero m (u .lower)) (Some rising)
+      (cond (spans.from-zero m (u0 .upper))
       (cond (spans.to-zero m (u0 .lower)) (Some across) (turned (left-row (m .opposite (u .lower)) (m .opposite (u0 .lower)))))
       (left-row (u .upper) (u0 .upper))))
 

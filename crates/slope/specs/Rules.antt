@@ -29,8 +29,8 @@ module _ {K : Type 0} where
   -- part by part
   abbrev pub part-slopes : (Span K → Span K → Option (Span K)) → Record K → Record K → Option (Slopes K)
   part-slopes f p q =
-    p .slopes >>= (λ s. q .slopes >>= (λ t.
-    f (s .a) (t .a) >>= (λ a. f (s .b) (t .b) >>= (λ b. f (s .c) (t .c) >>= (λ c. three a b c)))))
+      p .slopes >>= (λ s. q .slopes >>= (λ t.
+      f (s .a) (t .a) >>= (λ a. f (s .b) (t .b) >>= (λ b. f (s .c) (t .c) >>= (λ c. three a b c)))))
 
   abbrev pub parts : (Span K → Span K → Option (Span K)) → Record K → Record K → Option (Record K)
   parts f p q = f (p .u) (q .u) >>= (λ u. f (p .u0) (q .u0) >>= (λ u0. Some (rec u u0 (part-slopes f p q))))
@@ -53,11 +53,11 @@ module _ {K : Type 0} (m : Model K) where
   -- ---- product: A = Au × V0 + U × Av; B = Bu × V0 + U0 × Bv; C = Cu × V0 + U × Cv + Au × Bv
   abbrev pub product-slopes : Record K → Record K → Option (Slopes K)
   product-slopes p q =
-    p .slopes >>= (λ s. q .slopes >>= (λ t.
-    spans.product m (s .a) (q .u0) >>= (λ a1. spans.product m (p .u) (t .a) >>= (λ a2. spans.sum m a1 a2 >>= (λ a.
-    spans.product m (s .b) (q .u0) >>= (λ b1. spans.product m (p .u0) (t .b) >>= (λ b2. spans.sum m b1 b2 >>= (λ b.
-    spans.product m (s .c) (q .u0) >>= (λ c1. spans.product m (p .u) (t .c) >>= (λ c2. spans.sum m c1 c2 >>= (λ c12.
-    spans.product m (s .a) (t .b) >>= (λ c3. spans.sum m c12 c3 >>= (λ c. three a b c)))))))))))))
+      p .slopes >>= (λ s. q .slopes >>= (λ t.
+      spans.product m (s .a) (q .u0) >>= (λ a1. spans.product m (p .u) (t .a) >>= (λ a2. spans.sum m a1 a2 >>= (λ a.
+      spans.product m (s .b) (q .u0) >>= (λ b1. spans.product m (p .u0) (t .b) >>= (λ b2. spans.sum m b1 b2 >>= (λ b.
+      spans.product m (s .c) (q .u0) >>= (λ c1. spans.product m (p .u) (t .c) >>= (λ c2. spans.sum m c1 c2 >>= (λ c12.
+      spans.product m (s .a) (t .b) >>= (λ c3. spans.sum m c12 c3 >>= (λ c. three a b c)))))))))))))
 
   abbrev pub product : Record K → Record K → Option (Record K)
   product p q = spans.product m (p .u) (q .u) >>= (λ u. spans.product m (p .u0) (q .u0) >>= (λ u0. Some (rec u u0 (product-slopes p q))))
@@ -65,11 +65,11 @@ module _ {K : Type 0} (m : Model K) where
   -- ---- quotient, W0 = U0 / V0: A = (Au − W0 × Av) / V; B = (Bu − W0 × Bv) / V0; C = (Cu − W0 × Cv − B × Av) / V
   abbrev pub quotient-slopes : Record K → Record K → Span K → Option (Slopes K)
   quotient-slopes p q w0 =
-    p .slopes >>= (λ s. q .slopes >>= (λ t.
-    spans.product m w0 (t .a) >>= (λ a1. spans.difference m (s .a) a1 >>= (λ a2. spans.quotient m a2 (q .u) >>= (λ a.
-    spans.product m w0 (t .b) >>= (λ b1. spans.difference m (s .b) b1 >>= (λ b2. spans.quotient m b2 (q .u0) >>= (λ b.
-    spans.product m w0 (t .c) >>= (λ c1. spans.difference m (s .c) c1 >>= (λ c2. spans.product m b (t .a) >>= (λ c3.
-    spans.difference m c2 c3 >>= (λ c4. spans.quotient m c4 (q .u) >>= (λ c. three a b c)))))))))))))
+      p .slopes >>= (λ s. q .slopes >>= (λ t.
+      spans.product m w0 (t .a) >>= (λ a1. spans.difference m (s .a) a1 >>= (λ a2. spans.quotient m a2 (q .u) >>= (λ a.
+      spans.product m w0 (t .b) >>= (λ b1. spans.difference m (s .b) b1 >>= (λ b2. spans.quotient m b2 (q .u0) >>= (λ b.
+      spans.product m w0 (t .c) >>= (λ c1. spans.difference m (s .c) c1 >>= (λ c2. spans.product m b (t .a) >>= (λ c3.
+      spans.difference m c2 c3 >>= (λ c4. spans.quotient m c4 (q .u) >>= (λ c. three a b c)))))))))))))
 
   abbrev pub quotient : Record K → Record K → Option (Record K)
   quotient p q = spans.quotient m (p .u) (q .u) >>= (λ u. spans.quotient m (p .u0) (q .u0) >>= (λ u0. Some (rec u u0 (quotient-slopes p q u0))))
@@ -84,15 +84,15 @@ module _ {K : Type 0} (m : Model K) where
 
   abbrev pub greater : Record K → Record K → Record K
   greater p q =
-    cond (spans.clears m (p .u) (q .u)) p
-    (cond (spans.clears m (q .u) (p .u)) q
-    (rec (spans.greater m (p .u) (q .u)) (spans.greater m (p .u0) (q .u0)) (hulls p q)))
+      cond (spans.clears m (p .u) (q .u)) p
+      (cond (spans.clears m (q .u) (p .u)) q
+      (rec (spans.greater m (p .u) (q .u)) (spans.greater m (p .u0) (q .u0)) (hulls p q)))
 
   abbrev pub lesser : Record K → Record K → Record K
   lesser p q =
-    cond (spans.clears m (q .u) (p .u)) p
-    (cond (spans.clears m (p .u) (q .u)) q
-    (rec (spans.lesser m (p .u) (q .u)) (spans.lesser m (p .u0) (q .u0)) (hulls p q)))
+      cond (spans.clears m (q .u) (p .u)) p
+      (cond (spans.clears m (p .u) (q .u)) q
+      (rec (spans.lesser m (p .u) (q .u)) (spans.lesser m (p .u0) (q .u0)) (hulls p q)))
 
   -- ---- branch: r where s is not below 0, q where it is below 0, else the hull; a jump has no slopes
   abbrev pub chosen : {X : Type 0} → Span K → X → X → X → X

@@ -19,7 +19,15 @@ fn joined<K: NumberKind>(u: Span<K>, u0: Span<K>, p: &Record<K>, q: &Record<K>) 
     let Some(t) = &q.slopes else {
         return Record::flat(u, u0);
     };
-    Record { u, u0, slopes: Some(Slopes { a: s.a.hull(t.a), b: s.b.hull(t.b), c: s.c.hull(t.c) }) }
+    Record {
+        u,
+        u0,
+        slopes: Some(Slopes {
+            a: s.a.hull(t.a),
+            b: s.b.hull(t.b),
+            c: s.c.hull(t.c),
+        }),
+    }
 }
 
 fn greater_steps<K: NumberKind>(p: &Record<K>, q: &Record<K>) -> Record<K>

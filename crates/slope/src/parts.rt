@@ -18,7 +18,15 @@ pub fn swept<K: NumberKind>(x: Span<K>, x0: Span<K>) -> Record<K>
 {
     let one = Span::point(K::one());
     let zero = Span::point(K::zero());
-    Record { u: x, u0: x0, slopes: Some(Slopes { a: one, b: one, c: zero }) }
+    Record {
+        u: x,
+        u0: x0,
+        slopes: Some(Slopes {
+            a: one,
+            b: one,
+            c: zero,
+        }),
+    }
 }
 
 // What does not move with the swept channel: another channel, or a constant.
@@ -26,7 +34,15 @@ pub fn still<K: NumberKind>(x: Span<K>) -> Record<K>
     ensures { λ r. ⌜ r ≡ rules.still (K·NumberKind .model) x ⌝ }
 {
     let zero = Span::point(K::zero());
-    Record { u: x, u0: x, slopes: Some(Slopes { a: zero, b: zero, c: zero }) }
+    Record {
+        u: x,
+        u0: x,
+        slopes: Some(Slopes {
+            a: zero,
+            b: zero,
+            c: zero,
+        }),
+    }
 }
 
 fn sum_slopes<K: NumberKind>(u: Span<K>, u0: Span<K>, p: &Record<K>, q: &Record<K>) -> Record<K>
@@ -47,7 +63,11 @@ fn sum_slopes<K: NumberKind>(u: Span<K>, u0: Span<K>, p: &Record<K>, q: &Record<
     let Some(c) = s.c.sum(t.c) else {
         return Record::flat(u, u0);
     };
-    Record { u, u0, slopes: Some(Slopes { a, b, c }) }
+    Record {
+        u,
+        u0,
+        slopes: Some(Slopes { a, b, c }),
+    }
 }
 
 fn sum_steps<K: NumberKind>(p: &Record<K>, q: &Record<K>, place: usize) -> Result<Record<K>, Fault>
@@ -65,7 +85,12 @@ pub fn sum<K: NumberKind>(p: &Record<K>, q: &Record<K>, place: usize) -> Result<
     sum_steps(p, q, place)
 }
 
-fn difference_slopes<K: NumberKind>(u: Span<K>, u0: Span<K>, p: &Record<K>, q: &Record<K>) -> Record<K>
+fn difference_slopes<K: NumberKind>(
+    u: Span<K>,
+    u0: Span<K>,
+    p: &Record<K>,
+    q: &Record<K>,
+) -> Record<K>
     ensures { λ r. ⌜ r ≡ rec u u0 (rules.part-slopes (spans.difference (K·NumberKind .model)) (now (p .entry)) (now (q .entry))) ⌝ }
 {
     let Some(s) = &p.slopes else {
@@ -83,10 +108,18 @@ fn difference_slopes<K: NumberKind>(u: Span<K>, u0: Span<K>, p: &Record<K>, q: &
     let Some(c) = s.c.difference(t.c) else {
         return Record::flat(u, u0);
     };
-    Record { u, u0, slopes: Some(Slopes { a, b, c }) }
+    Record {
+        u,
+        u0,
+        slopes: Some(Slopes { a, b, c }),
+    }
 }
 
-fn difference_steps<K: NumberKind>(p: &Record<K>, q: &Record<K>, place: usize) -> Result<Record<K>, Fault>
+fn difference_steps<K: NumberKind>(
+    p: &Record<K>,
+    q: &Record<K>,
+    place: usize,
+) -> Result<Record<K>, Fault>
     ensures { λ r. ⌜ r ≡ given place (rules.difference (K·NumberKind .model) (now (p .entry)) (now (q .entry))) ⌝ }
 {
     let u = present(p.u.difference(q.u), place)?;
@@ -94,7 +127,11 @@ fn difference_steps<K: NumberKind>(p: &Record<K>, q: &Record<K>, place: usize) -
     Ok(difference_slopes(u, u0, p, q))
 }
 
-pub fn difference<K: NumberKind>(p: &Record<K>, q: &Record<K>, place: usize) -> Result<Record<K>, Fault>
+pub fn difference<K: NumberKind>(
+    p: &Record<K>,
+    q: &Record<K>,
+    place: usize,
+) -> Result<Record<K>, Fault>
     ensures value { λ r. ⌜ r ≡ given place (rules.difference (K·NumberKind .model) (now (p .entry)) (now (q .entry))) ⌝ }
     ensures truth { λ r. ⌜ Kept (K·NumberKind .model) _-F_ (spans.difference (K·NumberKind .model) (now (p .entry) .u) (now (q .entry) .u)) (now (p .entry)) (now (q .entry)) r ⌝ }
 {

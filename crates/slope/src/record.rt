@@ -36,7 +36,11 @@ impl<K: NumberKind> Record<K> {
     pub fn flat(u: Span<K>, u0: Span<K>) -> Record<K>
         ensures { λ r. ⌜ r ≡ rec u u0 None ⌝ }
     {
-        Record { u, u0, slopes: None }
+        Record {
+            u,
+            u0,
+            slopes: None,
+        }
     }
 }
 
@@ -46,6 +50,9 @@ pub fn present<K: NumberKind>(span: Option<Span<K>>, place: usize) -> Result<Spa
 {
     match span {
         Some(u) => Ok(u),
-        None => Err(Fault { cause: Cause::Absent, place }),
+        None => Err(Fault {
+            cause: Cause::Absent,
+            place,
+        }),
     }
 }

@@ -36,7 +36,8 @@ module _ {K : Type 0} (m : Model K) where
     ordered = ≤F-trans (d .1) (≤F-trans (l .low hi (g .member)) (u .1));
     inside = λ x s. (≤F-trans (d .0 .0) (l .low x s), ≤F-trans (g .high x s) (u .0 .1));
     holds = λ x s. record { low = ≤F-trans (d .1) (l .low x s); high = ≤F-trans (g .high x s) (u .1) };
-    least = λ v h. record { low = d .2 (v .lower) (h lo (l .member) .low); high = u .2 (v .upper) (h hi (g .member) .high) } }
+    least = λ v h. record { low = d .2 (v .lower) (h lo (l .member) .low); high = u .2 (v .upper) (h hi (g .member) .high) };
+  }
 
   -- a least member rounded down and a greatest rounded up
   pub enclose : Rules m → (S : Frac → Type 0) (lo hi : Frac) → Least S lo → Greatest S hi → Narrowest m S (ends m (m .below lo) (m .above hi))
@@ -54,7 +55,8 @@ module _ {K : Type 0} (m : Model K) where
     ordered = n .ordered;
     inside = λ x s. let p = e .floor x s in let q = e .ceiling x s in (≤F-trans (n .inside _ (p .1 .0) .0) (p .1 .1), ≤F-trans (q .1 .1) (n .inside _ (q .1 .0) .1));
     holds = λ x s. let p = e .floor x s in let q = e .ceiling x s in record { low = ≤F-trans (n .holds _ (p .1 .0) .low) (p .1 .1); high = ≤F-trans (q .1 .1) (n .holds _ (q .1 .0) .high) };
-    least = λ v h. n .least v (λ x s. h x (e .into x s)) }
+    least = λ v h. n .least v (λ x s. h x (e .into x s));
+  }
 
   -- two sets with the same members
   pub same : (S S′ : Frac → Type 0) → ((x : Frac) → S′ x → S x) → ((x : Frac) → S x → S′ x) → (r : Option (Span K)) → Narrowest m S′ r → Narrowest m S r
@@ -84,16 +86,19 @@ module _ {K : Type 0} (m : Model K) where
   -- the hull of two narrowest spans is the narrowest over both sets
   pub hull-fits : (S T : Frac → Type 0) (s t : Span K) → Fitting m S s → Fitting m T t → Fitting m (Union S T) (hull m s t)
   hull-fits S T s t f g = record {
-      ordered = ≤F-trans (lesser-left (s .lower) (t .lower)) (≤F-trans (f .ordered) (greater-left (s .upper) (t .upper)));
-      inside = ins;
-      holds = hol;
-      least = λ v h. record {
-        low = lesser-ind (s .lower) (t .lower) (λ k. m .value (v .lower) ≤F m .value k) (f .least v (λ x p. h x (inl p)) .low) (g .least v (λ x p. h x (inr p)) .low);
-        high = greater-ind (s .upper) (t .upper) (λ k. m .value k ≤F m .value (v .upper)) (f .least v (λ x p. h x (inl p)) .high) (g .least v (λ x p. h x (inr p)) .high) } }
+    ordered = ≤F-trans (lesser-left (s .lower) (t .lower)) (≤F-trans (f .ordered) (greater-left (s .upper) (t .upper)));
+    inside = ins;
+    holds = hol;
+    least = λ v h. record {
+      low = lesser-ind (s .lower) (t .lower) (λ k. m .value (v .lower) ≤F m .value k) (f .least v (λ x p. h x (inl p)) .low) (g .least v (λ x p. h x (inr p)) .low);
+      high = greater-ind (s .upper) (t .upper) (λ k. m .value k ≤F m .value (v .upper)) (f .least v (λ x p. h x (inl p)) .high) (g .least v (λ x p. h x (inr p)) .high);
+    };
+  }
     where
       ins : (x : Frac) → Union S T x → Inside m x
       ins x (inl p) = f .inside x p
       ins x (inr p) = g .inside x p
+
       hol : (x : Frac) → Union S T x → Held m (hull m s t) x
       hol x (inl p) = record { low = ≤F-trans (lesser-left _ _) (f .holds x p .low); high = ≤F-trans (f .holds x p .high) (greater-left _ _) }
       hol x (inr p) = record { low = ≤F-trans (lesser-right _ _) (g .holds x p .low); high = ≤F-trans (g .holds x p .high) (greater-right _ _) }
@@ -109,7 +114,8 @@ module _ {K : Type 0} (m : Model K) where
     ordered = l .low _ (g .member);
     inside = λ x s. (≤F-trans (mark-inside m rules (w .lower) .0) (l .low x s), ≤F-trans (g .high x s) (mark-inside m rules (w .upper) .1));
     holds = λ x s. record { low = l .low x s; high = g .high x s };
-    least = λ v h. record { low = h _ (l .member) .low; high = h _ (g .member) .high } }
+    least = λ v h. record { low = h _ (l .member) .low; high = h _ (g .member) .high };
+  }
 
   -- the sign of a mark, as the code tests it
   pub 0≤ : Rules m → {a : K} → m .value (m .nought) ≤F m .value a → 0F ≤F m .value a

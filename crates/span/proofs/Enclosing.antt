@@ -45,12 +45,14 @@ module _ {K : Type 0} (m : Model K) where
   pub greater-in : (s t : Span K) (a b : Frac) → Held m s a → Held m t b → Held m (greater m s t) (maxF a b)
   greater-in s t a b i j = record {
     low = greater-ind m (s .lower) (t .lower) (λ k. m .value k ≤F maxF a b) (≤F-trans (i .low) (max-left a b)) (≤F-trans (j .low) (max-right a b));
-    high = max-ind a b (λ x. x ≤F m .value (greater-mark m (s .upper) (t .upper))) (λ h. ≤F-trans (i .high) (greater-left m _ _)) (λ h. ≤F-trans (j .high) (greater-right m _ _)) }
+    high = max-ind a b (λ x. x ≤F m .value (greater-mark m (s .upper) (t .upper))) (λ h. ≤F-trans (i .high) (greater-left m _ _)) (λ h. ≤F-trans (j .high) (greater-right m _ _));
+  }
 
   pub lesser-in : (s t : Span K) (a b : Frac) → Held m s a → Held m t b → Held m (lesser m s t) (minF a b)
   lesser-in s t a b i j = record {
     low = min-ind a b (λ x. m .value (lesser-mark m (s .lower) (t .lower)) ≤F x) (λ h. ≤F-trans (lesser-left m _ _) (i .low)) (λ h. ≤F-trans (lesser-right m _ _) (j .low));
-    high = lesser-ind m (s .upper) (t .upper) (λ k. minF a b ≤F m .value k) (≤F-trans (min-left a b) (i .high)) (≤F-trans (min-right a b) (j .high)) }
+    high = lesser-ind m (s .upper) (t .upper) (λ k. minF a b ≤F m .value k) (≤F-trans (min-left a b) (i .high)) (≤F-trans (min-right a b) (j .high));
+  }
 
   module _ (rules : Rules m) where
     pub zero-in : Held m (zero-span m) 0F
@@ -68,15 +70,15 @@ module _ {K : Type 0} (m : Model K) where
 
     pub sum-in : (s t p : Span K) (a b : Frac) → sum m s t ≡ Some p → Held m s a → Held m t b → Held m p (a +F b)
     sum-in s t p a b e i j = fits _ _ p e (sum-narrow m rules s t (ordered s a i) (ordered t b j)) .holds (a +F b)
-      (record { left = a; right = b; in-left = i; in-right = j; is = ≈-refl _ })
+        (record { left = a; right = b; in-left = i; in-right = j; is = ≈-refl _ })
 
     pub difference-in : (s t p : Span K) (a b : Frac) → difference m s t ≡ Some p → Held m s a → Held m t b → Held m p (a -F b)
     difference-in s t p a b e i j = fits _ _ p e (difference-narrow m rules s t (ordered s a i) (ordered t b j)) .holds (a -F b)
-      (record { left = a; right = b; in-left = i; in-right = j; is = ≈-refl _ })
+        (record { left = a; right = b; in-left = i; in-right = j; is = ≈-refl _ })
 
     pub product-in : (s t p : Span K) (a b : Frac) → product m s t ≡ Some p → Held m s a → Held m t b → Held m p (a *F b)
     product-in s t p a b e i j = fits _ _ p e (product-narrow m rules s t (ordered s a i) (ordered t b j)) .holds (a *F b)
-      (record { left = a; right = b; in-left = i; in-right = j; is = ≈-refl _ })
+        (record { left = a; right = b; in-left = i; in-right = j; is = ≈-refl _ })
 
     pub square-in : (s p : Span K) (a : Frac) → square m s ≡ Some p → Held m s a → Held m p (a *F a)
     square-in s p a e i = fits _ _ p e (square-narrow m rules s (ordered s a i)) .holds (a *F a) (record { from = a; in-from = i; is = ≈-refl _ })
@@ -91,4 +93,4 @@ module _ {K : Type 0} (m : Model K) where
     pub quotient-in : (s t p : Span K) (a b x : Frac) → quotient m s t ≡ Some p → Held m s a → Held m t b → (x *F b) ≈ a → Held m p x
     quotient-in s t p a b x e i j q = fits _ _ p e (quotient-law m rules s t (ordered s a i) (ordered t b j) .other
         (λ z. never (quotient m s t) p (quotient-law m rules s t (ordered s a i) (ordered t b j) .zero z) e)) .holds x
-      (record { left = a; right = b; in-left = i; in-right = j; is = q })
+        (record { left = a; right = b; in-left = i; in-right = j; is = q })

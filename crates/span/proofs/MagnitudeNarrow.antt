@@ -50,26 +50,41 @@ module _ {K : Type 0} (m : Model K) (rules : Rules m) (s : Span K) (hs : Ordered
 
   magnitude-ends : Ends (magnitude m s)
   magnitude-ends = by-le _ _ Ends _ _
-    (λ h. let z = 0≤ m rules h in record {
-      least = record { member = record { from = _; in-from = lower-in m s hs; is = ≈-sym (mag-pos _ z) };
-                       low = λ y k. ≤F-trans (k .in-from .low) (≤F-trans (max-left _ _) (≤F-of-≈ (≈-sym (k .is)))) };
-      greatest = record { member = record { from = _; in-from = upper-in m s hs; is = ≈-sym (mag-pos _ (≤F-trans z hs)) };
-                          high = λ y k. ≤F-trans (≤F-of-≈ (k .is)) (≤F-trans (≤F-of-≈ (mag-pos _ (≤F-trans z (k .in-from .low)))) (k .in-from .high)) } })
-    (λ g. by-le _ _ Ends _ _
+      (λ h. let z = 0≤ m rules h in record {
+        least = record {
+          member = record { from = _; in-from = lower-in m s hs; is = ≈-sym (mag-pos _ z) };
+          low = λ y k. ≤F-trans (k .in-from .low) (≤F-trans (max-left _ _) (≤F-of-≈ (≈-sym (k .is))));
+        };
+        greatest = record {
+          member = record { from = _; in-from = upper-in m s hs; is = ≈-sym (mag-pos _ (≤F-trans z hs)) };
+          high = λ y k. ≤F-trans (≤F-of-≈ (k .is)) (≤F-trans (≤F-of-≈ (mag-pos _ (≤F-trans z (k .in-from .low)))) (k .in-from .high));
+        };
+      })
+      (λ g. by-le _ _ Ends _ _
       (λ h. let z = ≤0 m rules h in record {
-        least = record { member = record { from = _; in-from = upper-in m s hs; is = ≈-trans (rules .opposite-is _) (≈-sym (mag-neg _ z)) };
-                         low = λ y k. ≤F-trans (≤F-of-≈ (rules .opposite-is _)) (≤F-trans (neg-mono (k .in-from .high)) (≤F-trans (max-right _ _) (≤F-of-≈ (≈-sym (k .is))))) };
-        greatest = record { member = record { from = _; in-from = lower-in m s hs; is = ≈-trans (rules .opposite-is _) (≈-sym (mag-neg _ (≤F-trans hs z))) };
-                            high = λ y k. ≤F-trans (≤F-of-≈ (≈-trans (k .is) (mag-neg _ (≤F-trans (k .in-from .high) z)))) (≤F-trans (neg-mono (k .in-from .low)) (≤F-of-≈ (≈-sym (rules .opposite-is _)))) } })
+        least = record {
+          member = record { from = _; in-from = upper-in m s hs; is = ≈-trans (rules .opposite-is _) (≈-sym (mag-neg _ z)) };
+          low = λ y k. ≤F-trans (≤F-of-≈ (rules .opposite-is _)) (≤F-trans (neg-mono (k .in-from .high)) (≤F-trans (max-right _ _) (≤F-of-≈ (≈-sym (k .is)))));
+        };
+        greatest = record {
+          member = record { from = _; in-from = lower-in m s hs; is = ≈-trans (rules .opposite-is _) (≈-sym (mag-neg _ (≤F-trans hs z))) };
+          high = λ y k. ≤F-trans (≤F-of-≈ (≈-trans (k .is) (mag-neg _ (≤F-trans (k .in-from .high) z)))) (≤F-trans (neg-mono (k .in-from .low)) (≤F-of-≈ (≈-sym (rules .opposite-is _))));
+        };
+      })
       (λ h. let n = ≤0 m rules (le-of-lt g) in let p = 0≤ m rules (le-of-lt h) in record {
-        least = record { member = record { from = 0F; in-from = record { low = n; high = p }; is = ≈-trans (rules .nought-is) (≈-sym (mag-pos 0F (≤F-refl 0F))) };
-                         low = λ y k. ≤F-trans (≤F-of-≈ (rules .nought-is)) (≤F-trans (mag-from-0 (k .from)) (≤F-of-≈ (≈-sym (k .is)))) };
-        greatest = record { member = greater-ind m (m .opposite (s .lower)) (s .upper) (λ k. Magnitudes m s (m .value k))
-                              (record { from = _; in-from = lower-in m s hs; is = ≈-trans (rules .opposite-is _) (≈-sym (mag-neg _ n)) })
-                              (record { from = _; in-from = upper-in m s hs; is = ≈-sym (mag-pos _ p) });
-                            high = λ y k. ≤F-trans (≤F-of-≈ (k .is)) (mag-high _ _
-                              (≤F-trans (k .in-from .high) (greater-right m (m .opposite (s .lower)) (s .upper)))
-                              (≤F-trans (neg-mono (k .in-from .low)) (≤F-trans (≤F-of-≈ (≈-sym (rules .opposite-is _))) (greater-left m (m .opposite (s .lower)) (s .upper))))) } }))
+        least = record {
+          member = record { from = 0F; in-from = record { low = n; high = p }; is = ≈-trans (rules .nought-is) (≈-sym (mag-pos 0F (≤F-refl 0F))) };
+          low = λ y k. ≤F-trans (≤F-of-≈ (rules .nought-is)) (≤F-trans (mag-from-0 (k .from)) (≤F-of-≈ (≈-sym (k .is))));
+        };
+        greatest = record {
+          member = greater-ind m (m .opposite (s .lower)) (s .upper) (λ k. Magnitudes m s (m .value k))
+              (record { from = _; in-from = lower-in m s hs; is = ≈-trans (rules .opposite-is _) (≈-sym (mag-neg _ n)) })
+              (record { from = _; in-from = upper-in m s hs; is = ≈-sym (mag-pos _ p) });
+          high = λ y k. ≤F-trans (≤F-of-≈ (k .is)) (mag-high _ _
+              (≤F-trans (k .in-from .high) (greater-right m (m .opposite (s .lower)) (s .upper)))
+              (≤F-trans (neg-mono (k .in-from .low)) (≤F-trans (≤F-of-≈ (≈-sym (rules .opposite-is _))) (greater-left m (m .opposite (s .lower)) (s .upper)))));
+        };
+      }))
 
   pub magnitude-narrow : Fitting m (Magnitudes m s) (magnitude m s)
   magnitude-narrow = exact-fits m rules (Magnitudes m s) (magnitude m s) (magnitude-ends .least) (magnitude-ends .greatest)
@@ -83,12 +98,16 @@ module _ {K : Type 0} (m : Model K) (rules : Rules m) (s : Span K) (hs : Ordered
 
   pub square-narrow : Narrowest m (Squares m s) (square m s)
   square-narrow = enclose m rules (Squares m s) _ _
-    (record { member = square-of _ (magnitude-ends .least .member);
-              low = λ y k. let l = magnitude-ends .least .low _ (own _ (k .in-from)) in
-                ≤F-trans (corner-low (mag (k .from)) (mag (k .from)) _ _ (both-up (mag-from-0 (k .from)) l) (both-up from-0 l)) (≤F-of-≈ (≈-trans (mag-square (k .from)) (≈-sym (k .is)))) })
-    (record { member = square-of _ (magnitude-ends .greatest .member);
-              high = λ y k. let g = magnitude-ends .greatest .high _ (own _ (k .in-from)) in
-                ≤F-trans (≤F-of-≈ (≈-trans (k .is) (≈-sym (mag-square (k .from))))) (corner-high (mag (k .from)) (mag (k .from)) _ _ (both-up (mag-from-0 (k .from)) g) (both-up (≤F-trans (mag-from-0 (k .from)) g) g)) })
+      (record {
+        member = square-of _ (magnitude-ends .least .member);
+        low = λ y k. let l = magnitude-ends .least .low _ (own _ (k .in-from)) in
+            ≤F-trans (corner-low (mag (k .from)) (mag (k .from)) _ _ (both-up (mag-from-0 (k .from)) l) (both-up from-0 l)) (≤F-of-≈ (≈-trans (mag-square (k .from)) (≈-sym (k .is))));
+      })
+      (record {
+        member = square-of _ (magnitude-ends .greatest .member);
+        high = λ y k. let g = magnitude-ends .greatest .high _ (own _ (k .in-from)) in
+            ≤F-trans (≤F-of-≈ (≈-trans (k .is) (≈-sym (mag-square (k .from))))) (corner-high (mag (k .from)) (mag (k .from)) _ _ (both-up (mag-from-0 (k .from)) g) (both-up (≤F-trans (mag-from-0 (k .from)) g) g));
+      })
     where
       from-0 : 0F ≤F m .value (magnitude m s .lower)
       from-0 = ≤F-trans (mag-from-0 _) (≤F-of-≈ (≈-sym (magnitude-ends .least .member .is)))

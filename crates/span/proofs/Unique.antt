@@ -15,9 +15,9 @@ module _ {K : Type 0} (m : Model K) where
   unique rules S None (Some t) n k = absurd (n .outside (k .inside _ (n .member)))
   unique rules S (Some s) None n k = absurd (k .outside (n .inside _ (k .member)))
   unique rules S (Some s) (Some t) n k =
-    let p = n .least t (k .holds) in
-    let q = k .least s (n .holds) in
-    ap₂ (λ a b. Some (span m a b)) (rules .distinct _ _ (≤F-antisym (q .low) (p .low))) (rules .distinct _ _ (≤F-antisym (p .high) (q .high)))
+      let p = n .least t (k .holds) in
+      let q = k .least s (n .holds) in
+      ap₂ (λ a b. Some (span m a b)) (rules .distinct _ _ (≤F-antisym (q .low) (p .low))) (rules .distinct _ _ (≤F-antisym (p .high) (q .high)))
 
   -- a subset's span is there too, and lies within
   pub narrower : (S S′ : Frac → Type 0) → ((x : Frac) → S′ x → S x) → (o : Option (Span K)) (w : Span K) → Narrowest m S′ o → Fitting m S w → Inner m o w

@@ -18,7 +18,10 @@ fn magnitude_ends<K: NumberKind>(s: Span<K>) -> Span<K>
     if to_zero(s.upper) {
         return s.negated();
     }
-    Span { lower: K::zero(), upper: greater_mark(s.lower.negated(), s.upper) }
+    Span {
+        lower: K::zero(),
+        upper: greater_mark(s.lower.negated(), s.upper),
+    }
 }
 
 fn square_ends<K: NumberKind>(s: Span<K>) -> Option<Span<K>>

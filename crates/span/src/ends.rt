@@ -32,13 +32,19 @@ pub fn to_zero<K: NumberKind>(a: K) -> bool
 pub fn hull_ends<K: NumberKind>(s: Span<K>, t: Span<K>) -> Span<K>
     ensures { λ r. ⌜ r ≡ spans.hull (K·NumberKind .model) s t ⌝ }
 {
-    Span { lower: lesser_mark(s.lower, t.lower), upper: greater_mark(s.upper, t.upper) }
+    Span {
+        lower: lesser_mark(s.lower, t.lower),
+        upper: greater_mark(s.upper, t.upper),
+    }
 }
 
 fn meet_ends<K: NumberKind>(s: Span<K>, t: Span<K>) -> Span<K>
     ensures { λ r. ⌜ r ≡ spans.meet (K·NumberKind .model) s t ⌝ }
 {
-    Span { lower: greater_mark(s.lower, t.lower), upper: lesser_mark(s.upper, t.upper) }
+    Span {
+        lower: greater_mark(s.lower, t.lower),
+        upper: lesser_mark(s.upper, t.upper),
+    }
 }
 
 fn count_ends<K: NumberKind>(lower: i32, upper: i32) -> Option<Span<K>>
@@ -86,7 +92,10 @@ impl<K: NumberKind> Span<K> {
     pub fn negated(self) -> Span<K>
         ensures { λ r. ⌜ r ≡ spans.negated (K·NumberKind .model) self ⌝ }
     {
-        Span { lower: self.upper.negated(), upper: self.lower.negated() }
+        Span {
+            lower: self.upper.negated(),
+            upper: self.lower.negated(),
+        }
     }
 
     // The narrowest span over both.
@@ -101,14 +110,20 @@ impl<K: NumberKind> Span<K> {
     pub fn greater(self, other: Span<K>) -> Span<K>
         ensures { λ r. ⌜ r ≡ spans.greater (K·NumberKind .model) self other ⌝ }
     {
-        Span { lower: greater_mark(self.lower, other.lower), upper: greater_mark(self.upper, other.upper) }
+        Span {
+            lower: greater_mark(self.lower, other.lower),
+            upper: greater_mark(self.upper, other.upper),
+        }
     }
 
     // Each end the lesser of the two.
     pub fn lesser(self, other: Span<K>) -> Span<K>
         ensures { λ r. ⌜ r ≡ spans.lesser (K·NumberKind .model) self other ⌝ }
     {
-        Span { lower: lesser_mark(self.lower, other.lower), upper: lesser_mark(self.upper, other.upper) }
+        Span {
+            lower: lesser_mark(self.lower, other.lower),
+            upper: lesser_mark(self.upper, other.upper),
+        }
     }
 
     // What lies in both.

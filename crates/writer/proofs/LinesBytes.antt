@@ -29,5 +29,5 @@ pub line-room : (ls : List Line) (i at size : ℕ) (d : Line) → i < length ls 
 line-room ls i at size d h r = let e = width-more ls i at d h in let f = lines-front ls (i + 1) in omega (arith, e, f)
 
 pub line-put : (ls : List Line) (i at : ℕ) (d : Line) (out : List ℕ) → i < length ls → at + length (lines-bytes ls) ≤ length out
-  → written (written out at (lines-bytes (take i ls))) (at + length (lines-bytes (take i ls))) (line-bytes (getD ls i d)) ≡ written out at (lines-bytes (take (i + 1) ls))
+    → written (written out at (lines-bytes (take i ls))) (at + length (lines-bytes (take i ls))) (line-bytes (getD ls i d)) ≡ written out at (lines-bytes (take (i + 1) ls))
 line-put ls i at d out h r = written-append out at (lines-bytes (take i ls)) (line-bytes (getD ls i d)) (let f = lines-front ls i in omega (arith, f)) ∙ ap (written out at) (sym (lines-more ls i d h))

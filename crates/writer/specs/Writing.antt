@@ -19,7 +19,7 @@ operand-bytes false n = []
 
 abbrev pub line-bytes : Line → List ℕ
 line-bytes l =
-  encode (operation l) ++ (encode (first l) ++ (operand-bytes (ltb 1 (arity (operation l))) (second l) ++ operand-bytes (ltb 2 (arity (operation l))) (third l)))
+    encode (operation l) ++ (encode (first l) ++ (operand-bytes (ltb 1 (arity (operation l))) (second l) ++ operand-bytes (ltb 2 (arity (operation l))) (third l)))
 
 abbrev pub lines-bytes : List Line → List ℕ
 lines-bytes [] = []
@@ -35,10 +35,10 @@ written out at bytes = take at out ++ (bytes ++ drop (at + length bytes) out)
 -- what writing a formula answers and leaves
 abbrev pub needed : List Line → List ℕ → Result ℕ Fault
 needed ls out =
-  cond (eqb (length ls) 0) (Err (record { cause = NoLine; place = 0 }))
-  (cond (ltb 64 (length ls)) (Err (record { cause = Count; place = 0 }))
-  (cond (ltb (length out) (length (formula-bytes ls))) (Err (record { cause = Room; place = length (formula-bytes ls) }))
-  (Ok (length (formula-bytes ls)))))
+    cond (eqb (length ls) 0) (Err (record { cause = NoLine; place = 0 }))
+    (cond (ltb 64 (length ls)) (Err (record { cause = Count; place = 0 }))
+    (cond (ltb (length out) (length (formula-bytes ls))) (Err (record { cause = Room; place = length (formula-bytes ls) }))
+    (Ok (length (formula-bytes ls)))))
 
 abbrev pub filled : Result ℕ Fault → List Line → List ℕ → List ℕ
 filled (Ok n) ls out = formula-bytes ls ++ drop (length (formula-bytes ls)) out

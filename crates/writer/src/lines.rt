@@ -31,7 +31,10 @@ fn line_width(line: Line) -> usize
 {
     let operation = line.operation();
     let operands = arity(operation);
-    width(u64::from(operation)) + width(line.first()) + width_if(operands > 1, line.second()) + width_if(operands > 2, line.third())
+    width(u64::from(operation))
+        + width(line.first())
+        + width_if(operands > 1, line.second())
+        + width_if(operands > 2, line.third())
 }
 
 fn put_line(out: &mut [u8], at: usize, line: Line) -> usize
@@ -77,14 +80,23 @@ pub fn write(lines: &[Line], out: &mut [u8]) -> Result<usize, Fault>
     ensures bytes { λ r. ⌜ now (out .exit) ≡ filled r (now (lines .entry)) (now (out .entry)) ⌝ }
 {
     if lines.len() == 0 {
-        return Err(Fault { cause: Cause::NoLine, place: 0 });
+        return Err(Fault {
+            cause: Cause::NoLine,
+            place: 0,
+        });
     }
     if lines.len() > 64 {
-        return Err(Fault { cause: Cause::Count, place: 0 });
+        return Err(Fault {
+            cause: Cause::Count,
+            place: 0,
+        });
     }
     let needed = formula_width(lines);
     if out.len() < needed {
-        return Err(Fault { cause: Cause::Room, place: needed });
+        return Err(Fault {
+            cause: Cause::Room,
+            place: needed,
+        });
     }
     let at = put(out, 0, lines.len() as u64);
     put_lines(out, at, lines);

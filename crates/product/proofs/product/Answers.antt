@@ -9,4 +9,5 @@ pub returns : need.returns
 returns g c = record {
   value = c .product-steps .ensures;
   truth = subst (Kept (g .K·NumberKind .model) _*F_ (spans.product (g .K·NumberKind .model) (c .args .p .now .u) (c .args .q .now .u)) (c .args .p .now) (c .args .q .now)) (sym (c .product-steps .ensures))
-    (product-kept (g .K·NumberKind .model) (g .K·NumberKind·met .rules) (c .args .place) (c .args .p .now) (c .args .q .now)) }
+      (product-kept (g .K·NumberKind .model) (g .K·NumberKind·met .rules) (c .args .place) (c .args .p .now) (c .args .q .now));
+}

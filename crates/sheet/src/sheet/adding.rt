@@ -28,10 +28,16 @@ impl Sheet {
         ensures { λ r. ⌜ r ≡ calls.next (K·NumberKind .model) (contents (now (self .entry))) (now (working .entry)) line ⌝ }
     {
         if working.len() < 64 {
-            return Err(Fault { cause: Cause::Lines, place: 0 });
+            return Err(Fault {
+                cause: Cause::Lines,
+                place: 0,
+            });
         }
         if self.held == 64 {
-            return Err(Fault { cause: Cause::Full, place: 64 });
+            return Err(Fault {
+                cause: Cause::Full,
+                place: 64,
+            });
         }
         record_of(&self.over, &working[..self.held], line)
     }
@@ -45,7 +51,11 @@ impl Sheet {
     }
 
     // Appends a line, with its record in the working line of its number, which it answers. A refusal leaves everything as it was.
-    pub fn add<K: NumberKind>(&mut self, working: &mut [Record<K>], line: Line) -> Result<usize, Fault>
+    pub fn add<K: NumberKind>(
+        &mut self,
+        working: &mut [Record<K>],
+        line: Line,
+    ) -> Result<usize, Fault>
         ensures answer { λ r. ⌜ r ≡ numbered (length (contents (now (self .entry)) .lines)) (calls.next (K·NumberKind .model) (contents (now (self .entry))) (now (working .entry)) line) ⌝ }
         ensures sheet { λ _. ⌜ contents (now (self .exit)) ≡ grown (contents (now (self .entry))) line (calls.next (K·NumberKind .model) (contents (now (self .entry))) (now (working .entry)) line) ⌝ }
         ensures records { λ _. ⌜ now (working .exit) ≡ stored (now (working .entry)) (length (contents (now (self .entry)) .lines)) (calls.next (K·NumberKind .model) (contents (now (self .entry))) (now (working .entry)) line) ⌝ }

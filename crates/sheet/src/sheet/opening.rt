@@ -5,8 +5,8 @@ ghost use Rattle.boxes.specs.Boxes.{opened};
 ghost use Rattle.sheet.specs.Contents.{contents};
 ghost use Rattle.sheet.specs.Calls.{accepts, reopened};
 ghost use Rattle.sheet.specs.Contents as sheets;
-use boxes::ChannelBox;
 use crate::sheet::Sheet;
+use boxes::ChannelBox;
 use fault::Fault;
 use line::Line;
 
@@ -15,7 +15,11 @@ impl Sheet {
     pub fn blank() -> Sheet
         ensures { λ s. ⌜ contents s ≡ sheets.blank ⌝ }
     {
-        Sheet { over: ChannelBox::blank(), lines: [Line::Constant(0); 64], held: 0 }
+        Sheet {
+            over: ChannelBox::blank(),
+            lines: [Line::Constant(0); 64],
+            held: 0,
+        }
     }
 
     // How many lines are held.
@@ -26,7 +30,13 @@ impl Sheet {
     }
 
     // Opens the sheet over a box and empties it. A refusal leaves the sheet as it was.
-    pub fn open(&mut self, lower: &[i64], upper: &[i64], swept: usize, centre: i64) -> Result<(), Fault>
+    pub fn open(
+        &mut self,
+        lower: &[i64],
+        upper: &[i64],
+        swept: usize,
+        centre: i64,
+    ) -> Result<(), Fault>
         ensures answer { λ r. ⌜ r ≡ accepts (opened (now (lower .entry)) (now (upper .entry)) swept centre) ⌝ }
         ensures left { λ _. ⌜ contents (now (self .exit)) ≡ reopened (contents (now (self .entry))) (opened (now (lower .entry)) (now (upper .entry)) swept centre) ⌝ }
     {

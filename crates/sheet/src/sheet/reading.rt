@@ -22,7 +22,13 @@ use slope::Record;
 
 impl Sheet {
     // Reads lines into the table and makes their records. None of them is held yet.
-    fn read_lines<K: NumberKind>(&mut self, working: &mut [Record<K>], bytes: &[u8], count: usize, from: Place) -> Result<(), Fault>
+    fn read_lines<K: NumberKind>(
+        &mut self,
+        working: &mut [Record<K>],
+        bytes: &[u8],
+        count: usize,
+        from: Place,
+    ) -> Result<(), Fault>
         requires { ⌜ now self .held ≡ 0 ⌝ }
         requires { ⌜ 64 ≤ length (now working) ⌝ }
         requires { ⌜ count ≤ 64 ⌝ }
@@ -57,16 +63,26 @@ impl Sheet {
     }
 
     // Adds all lines of a formula to an empty sheet. A refusal leaves no line, and the records made before it.
-    pub fn read<K: NumberKind>(&mut self, working: &mut [Record<K>], bytes: &[u8]) -> Result<(), Fault>
+    pub fn read<K: NumberKind>(
+        &mut self,
+        working: &mut [Record<K>],
+        bytes: &[u8],
+    ) -> Result<(), Fault>
         ensures answer { λ r. ⌜ r ≡ read-onto (K·NumberKind .model) (contents (now (self .entry))) (now (working .entry)) (now (bytes .entry)) .answer ⌝ }
         ensures sheet { λ r. ⌜ contents (now (self .exit)) ≡ filled (contents (now (self .entry))) r (read-onto (K·NumberKind .model) (contents (now (self .entry))) (now (working .entry)) (now (bytes .entry)) .lines) ⌝ }
         ensures records { λ _. ⌜ now (working .exit) ≡ overlaid (read-onto (K·NumberKind .model) (contents (now (self .entry))) (now (working .entry)) (now (bytes .entry)) .records) (now (working .entry)) ⌝ }
     {
         if working.len() < 64 {
-            return Err(Fault { cause: Cause::Lines, place: 0 });
+            return Err(Fault {
+                cause: Cause::Lines,
+                place: 0,
+            });
         }
         if self.held > 0 {
-            return Err(Fault { cause: Cause::NotEmpty, place: 0 });
+            return Err(Fault {
+                cause: Cause::NotEmpty,
+                place: 0,
+            });
         }
         self.fill(working, bytes)
     }

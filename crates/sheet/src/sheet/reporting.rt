@@ -16,10 +16,16 @@ impl Sheet {
         ensures { λ r. ⌜ r ≡ calls.report (K·NumberKind .model) (contents (now (self .entry))) (now (working .entry)) line ⌝ }
     {
         if working.len() < 64 {
-            return Err(Fault { cause: Cause::Lines, place: 0 });
+            return Err(Fault {
+                cause: Cause::Lines,
+                place: 0,
+            });
         }
         if line >= self.held {
-            return Err(Fault { cause: Cause::NoLine, place: line });
+            return Err(Fault {
+                cause: Cause::NoLine,
+                place: line,
+            });
         }
         Ok(report_of(&self.over, &working[line]))
     }

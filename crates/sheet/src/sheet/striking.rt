@@ -13,7 +13,10 @@ impl Sheet {
         ensures left { λ _. ⌜ contents (now (self .exit)) ≡ shortened (contents (now (self .entry))) ⌝ }
     {
         if self.held == 0 {
-            return Err(Fault { cause: Cause::NoLine, place: 0 });
+            return Err(Fault {
+                cause: Cause::NoLine,
+                place: 0,
+            });
         }
         self.held -= 1;
         Ok(())

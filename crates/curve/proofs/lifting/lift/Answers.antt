@@ -7,4 +7,5 @@ pub returns : need.returns
 returns g c = record {
   value = c .lift-steps .ensures;
   truth = subst (Curved (g .K·NumberKind .model) (g .C·Curve .exact) (g .C·Curve .image (c .args .p .now .u)) (c .args .p .now)) (sym (c .lift-steps .ensures))
-    (lift-kept (g .K·NumberKind .model) (g .K·NumberKind·met .rules) (g .C·Curve .exact) (g .C·Curve .image) (g .C·Curve .bend) (g .C·Curve·met .bends) (c .args .place) (c .args .p .now)) }
+      (lift-kept (g .K·NumberKind .model) (g .K·NumberKind·met .rules) (g .C·Curve .exact) (g .C·Curve .image) (g .C·Curve .bend) (g .C·Curve·met .bends) (c .args .place) (c .args .p .now));
+}

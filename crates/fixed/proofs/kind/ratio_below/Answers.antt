@@ -29,6 +29,6 @@ ghost-result c = let f = floor-at (c .args .n) _ (c .args .d) (c .pre) (plain-fl
 
 pub returns : need.returns
 returns c h =
-  let e = plain-floor (c .args .n) _ (c .args .d) (c .fits .n) (omega arith) (c .div-euclid .ensures) in
-  let f = floor-at (c .args .n) _ (c .args .d) (c .pre) e (omega (arith, ints)) (omega (arith, ints)) in
-  fixed-some (c .args .n) (c .args .d) h _ (omega (arith, ints)) (omega (arith, ints))
+    let e = plain-floor (c .args .n) _ (c .args .d) (c .fits .n) (omega arith) (c .div-euclid .ensures) in
+    let f = floor-at (c .args .n) _ (c .args .d) (c .pre) e (omega (arith, ints)) (omega (arith, ints)) in
+    fixed-some (c .args .n) (c .args .d) h _ (omega (arith, ints)) (omega (arith, ints))

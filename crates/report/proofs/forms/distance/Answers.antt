@@ -8,4 +8,4 @@ use Rattle.report.proofs.forms.distance.Needs as need
 
 pub returns : need.returns
 returns g c = let b = c .args .b .now in distance-is (g .K·NumberKind .model) b
-  {l = toZ w32 (ofZ w32 (getD (b .lower) (b .swept) (pos 0)))} {u = toZ w32 (ofZ w32 (getD (b .upper) (b .swept) (pos 0)))} {x = toZ w32 (ofZ w32 (b .centre))} (search needs) (search needs) (search needs) (c .about .ensures)
+    {l = toZ w32 (ofZ w32 (getD (b .lower) (b .swept) (pos 0)))} {u = toZ w32 (ofZ w32 (getD (b .upper) (b .swept) (pos 0)))} {x = toZ w32 (ofZ w32 (b .centre))} (search needs) (search needs) (search needs) (c .about .ensures)

@@ -9,4 +9,5 @@ pub returns : need.returns
 returns g c = record {
   value = c .range .ensures;
   truth = subst (λ r. Covers (g .K·NumberKind .model) (box-of (c .args .b .now)) (c .args .r .now) (Held (g .K·NumberKind .model) r)) (sym (c .range .ensures))
-    (λ x u u0 s t. in-range (g .K·NumberKind .model) (g .K·NumberKind·met .rules) (box-of (c .args .b .now)) (c .args .r .now) x u u0 s t) }
+      (λ x u u0 s t. in-range (g .K·NumberKind .model) (g .K·NumberKind·met .rules) (box-of (c .args .b .now)) (c .args .r .now) x u u0 s t);
+}

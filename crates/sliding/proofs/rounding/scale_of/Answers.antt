@@ -7,10 +7,10 @@ use Rattle.sliding.proofs.rounding.scale_of.Needs as need
 
 pub returns-then-bits-gt24 : need.returns-then-bits-gt24
 returns-then-bits-gt24 c = let e = c .unsigned-abs .ensures .value in
-  let f : c .unsigned-abs .result ≡ natAbs (c .args .k) = omega (arith, ints) in
-  wide-scale (c .args .k) _ f (omega (arith, f)) (omega arith)
+    let f : c .unsigned-abs .result ≡ natAbs (c .args .k) = omega (arith, ints) in
+    wide-scale (c .args .k) _ f (omega (arith, f)) (omega arith)
 
 pub returns : need.returns
 returns c = let e = c .unsigned-abs .ensures .value in
-  let f : c .unsigned-abs .result ≡ natAbs (c .args .k) = omega (arith, ints) in
-  narrow-scale (c .args .k) _ f (omega (arith, f)) (omega arith)
+    let f : c .unsigned-abs .result ≡ natAbs (c .args .k) = omega (arith, ints) in
+    narrow-scale (c .args .k) _ f (omega (arith, f)) (omega arith)

@@ -7,4 +7,5 @@ pub returns : need.returns
 returns g c = record {
   value = c .branch-steps .ensures;
   truth = subst (Branched (g .K·NumberKind .model) (c .args .s .now) (c .args .q .now) (c .args .r .now)) (sym (c .branch-steps .ensures))
-    (branch-kept (g .K·NumberKind .model) (g .K·NumberKind·met .rules) (c .args .s .now) (c .args .q .now) (c .args .r .now)) }
+      (branch-kept (g .K·NumberKind .model) (g .K·NumberKind·met .rules) (c .args .s .now) (c .args .q .now) (c .args .r .now));
+}

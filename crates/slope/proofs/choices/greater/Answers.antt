@@ -8,4 +8,5 @@ pub returns : need.returns
 returns g c = record {
   value = c .greater-steps .ensures;
   truth = subst (Chosen (g .K·NumberKind .model) maxF (c .args .p .now) (c .args .q .now)) (sym (c .greater-steps .ensures))
-    (greater-chosen (g .K·NumberKind .model) (g .K·NumberKind·met .rules) (c .args .p .now) (c .args .q .now)) }
+      (greater-chosen (g .K·NumberKind .model) (g .K·NumberKind·met .rules) (c .args .p .now) (c .args .q .now));
+}

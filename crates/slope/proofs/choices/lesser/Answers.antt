@@ -8,4 +8,5 @@ pub returns : need.returns
 returns g c = record {
   value = c .lesser-steps .ensures;
   truth = subst (Chosen (g .K·NumberKind .model) minF (c .args .p .now) (c .args .q .now)) (sym (c .lesser-steps .ensures))
-    (lesser-chosen (g .K·NumberKind .model) (g .K·NumberKind·met .rules) (c .args .p .now) (c .args .q .now)) }
+      (lesser-chosen (g .K·NumberKind .model) (g .K·NumberKind·met .rules) (c .args .p .now) (c .args .q .now));
+}

@@ -20,23 +20,23 @@ loop-c-holds c = judged-none refl refl
 
 pub returns-in-Break-l : need.returns-in-Break-l
 returns-in-Break-l c = exit _ (c .from-residual .ensures .1)
-  (bad-channel (c .args .lower .now) (c .args .upper .now) (c .args .swept) (c .args .centre) (c .if-channels-eq0 .left) (c .if-channels-gt8 .left) (c .if-channels-upper .left)
+    (bad-channel (c .args .lower .now) (c .args .upper .now) (c .args .swept) (c .args .centre) (c .if-channels-eq0 .left) (c .if-channels-gt8 .left) (c .if-channels-upper .left)
     (judged-out (c .loop-c .inv) (c .loop-c-test .taken) (omega (arith, c .loop-c-test .taken, c .if-channels-upper .left))
-      {x = toZ w64 (ofZ w64 (getD (c .args .lower .now) (c .loop-c .c) (pos 0)))} {y = toZ w64 (ofZ w64 (getD (c .args .upper .now) (c .loop-c .c) (pos 0)))} (search needs) (search needs)
-      (c .in-Break-l .ensures tt)))
+    {x = toZ w64 (ofZ w64 (getD (c .args .lower .now) (c .loop-c .c) (pos 0)))} {y = toZ w64 (ofZ w64 (getD (c .args .upper .now) (c .loop-c .c) (pos 0)))} (search needs) (search needs)
+    (c .in-Break-l .ensures tt)))
 
 pub loop-c-again : need.loop-c-again
 loop-c-again c = judged-on (c .loop-c .inv) (c .loop-c-test .taken) (omega (arith, c .loop-c-test .taken, c .if-channels-upper .left))
-  {x = toZ w64 (ofZ w64 (getD (c .args .lower .now) (c .loop-c .c) (pos 0)))} {y = toZ w64 (ofZ w64 (getD (c .args .upper .now) (c .loop-c .c) (pos 0)))} (search needs) (search needs)
-  (omega (arith, c .loop-c-test .taken, c .if-channels-gt8 .left)) (c .in-Continue-l .ensures tt) (search needs) (search needs)
+    {x = toZ w64 (ofZ w64 (getD (c .args .lower .now) (c .loop-c .c) (pos 0)))} {y = toZ w64 (ofZ w64 (getD (c .args .upper .now) (c .loop-c .c) (pos 0)))} (search needs) (search needs)
+    (omega (arith, c .loop-c-test .taken, c .if-channels-gt8 .left)) (c .in-Continue-l .ensures tt) (search needs) (search needs)
 
 pub returns-then-swept-channels : need.returns-then-swept-channels
-returns-then-swept-channels c = not-swept (c .args .lower .now) (c .args .upper .now) (c .args .swept) (c .args .centre) (c .if-channels-eq0 .left) (c .if-channels-gt8 .left) (c .if-channels-upper .left) 
-  (judged-all (c .loop-c .inv) (c .loop-c-test .left)) (c .if-swept-channels .taken)
+returns-then-swept-channels c = not-swept (c .args .lower .now) (c .args .upper .now) (c .args .swept) (c .args .centre) (c .if-channels-eq0 .left) (c .if-channels-gt8 .left) (c .if-channels-upper .left)
+    (judged-all (c .loop-c .inv) (c .loop-c-test .left)) (c .if-swept-channels .taken)
 
 pub returns-in-Break-centre : need.returns-in-Break-centre
 returns-in-Break-centre c = exit _ (c .from-residual-in-Break-centre .ensures .1)
-  (bad-centre (c .args .lower .now) (c .args .upper .now) (c .args .swept) (c .args .centre) (c .if-channels-eq0 .left) (c .if-channels-gt8 .left) (c .if-channels-upper .left)
+    (bad-centre (c .args .lower .now) (c .args .upper .now) (c .args .swept) (c .args .centre) (c .if-channels-eq0 .left) (c .if-channels-gt8 .left) (c .if-channels-upper .left)
     (judged-all (c .loop-c .inv) (c .loop-c-test .left)) (c .if-swept-channels .left) {x = toZ w64 (ofZ w64 (c .args .centre))}
     (plain (c .loop-c .lowers) (c .args .swept) (search needs) ∙ low-at (c .loop-c .inv) (c .loop-c-test .left) _ (c .if-swept-channels .left))
     (plain (c .loop-c .uppers) (c .args .swept) (search needs) ∙ high-at (c .loop-c .inv) (c .loop-c-test .left) _ (c .if-swept-channels .left))
@@ -44,8 +44,8 @@ returns-in-Break-centre c = exit _ (c .from-residual-in-Break-centre .ensures .1
 
 pub ghost-result : need.ghost-result
 ghost-result c =
-  let p = centred-in {y′ = toZ w32 (ofZ w32 (c .in-Continue-centre .centre))} (toZ w64 (ofZ w64 (c .args .centre))) (c .args .swept) (plain (c .loop-c .lowers) (c .args .swept) (search needs)) (plain (c .loop-c .uppers) (c .args .swept) (search needs)) (search needs) (c .in-Continue-centre .ensures tt) in
-  (c .if-channels-gt8 .left, (c .loop-c .inv .all-lowers, (c .loop-c .inv .all-uppers, ((λ i l. c .loop-c .inv .ordered i (omega (arith, l, c .loop-c-test .left))), (c .if-swept-channels .left, (p .0, (p .1, tt)))))))
+    let p = centred-in {y′ = toZ w32 (ofZ w32 (c .in-Continue-centre .centre))} (toZ w64 (ofZ w64 (c .args .centre))) (c .args .swept) (plain (c .loop-c .lowers) (c .args .swept) (search needs)) (plain (c .loop-c .uppers) (c .args .swept) (search needs)) (search needs) (c .in-Continue-centre .ensures tt) in
+    (c .if-channels-gt8 .left, (c .loop-c .inv .all-lowers, (c .loop-c .inv .all-uppers, ((λ i l. c .loop-c .inv .ordered i (omega (arith, l, c .loop-c-test .left))), (c .if-swept-channels .left, (p .0, (p .1, tt)))))))
 
 pub returns : need.returns
 returns c = opens (c .args .lower .now) (c .args .upper .now) (c .args .swept) (c .args .centre) (c .if-channels-eq0 .left) (c .if-channels-gt8 .left) (c .if-channels-upper .left)

@@ -14,6 +14,6 @@ returns c = at-above _ _ _ 65536 (lit< tt) (c .ratio-above .ensures (lit< tt)) (
 
 pub ratio-above-requires : need.ratio-above-requires
 ratio-above-requires c κs =
-  let e = plain-product (c .args .self .count) (c .args .other .count) (omega (arith, ints)) (omega (arith, ints)) in
-  let k = product-bound (c .args .self .count) (c .args .other .count) 1073741823 1073741823 (omega (arith, ints)) (omega (arith, ints)) in
-  record { positive = lit< tt; bounded = rw e (omega (arith, ints)) }
+    let e = plain-product (c .args .self .count) (c .args .other .count) (omega (arith, ints)) (omega (arith, ints)) in
+    let k = product-bound (c .args .self .count) (c .args .other .count) 1073741823 1073741823 (omega (arith, ints)) (omega (arith, ints)) in
+    record { positive = lit< tt; bounded = rw e (omega (arith, ints)) }

@@ -8,4 +8,4 @@ use Rattle.fixed.proofs.mark.Fixed.of_count.Needs as need
 
 pub returns : need.returns
 returns c = let e : toZ w64 (ofZ w64 (c .args .n)) ≡ c .args .n = toZ-ofZ w64 (c .args .n) (c .fits .n) in
-  record { value = c .marked .ensures ∙ ap mark-of e; marks = fixed-marks }
+    record { value = c .marked .ensures ∙ ap mark-of e; marks = fixed-marks }

@@ -6,4 +6,5 @@ use Rattle.span.proofs.span.Span.meet.Needs as need
 pub returns : need.returns
 returns g c = record {
   value = c .meet-ends .ensures;
-  both = subst (Meet-law (g .K·NumberKind .model) (c .args .self) (c .args .other)) (sym (c .meet-ends .ensures)) (meet-law (g .K·NumberKind .model) (c .args .self) (c .args .other)) }
+  both = subst (Meet-law (g .K·NumberKind .model) (c .args .self) (c .args .other)) (sym (c .meet-ends .ensures)) (meet-law (g .K·NumberKind .model) (c .args .self) (c .args .other));
+}

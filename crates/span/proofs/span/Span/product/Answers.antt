@@ -6,4 +6,5 @@ use Rattle.span.proofs.span.Span.product.Needs as need
 pub returns : need.returns
 returns g c = record {
   value = c .product-ends .ensures;
-  narrowest = subst (Product-law (g .K·NumberKind .model) (c .args .self) (c .args .other)) (sym (c .product-ends .ensures)) (product-narrow (g .K·NumberKind .model) (g .K·NumberKind·met .rules) (c .args .self) (c .args .other)) }
+  narrowest = subst (Product-law (g .K·NumberKind .model) (c .args .self) (c .args .other)) (sym (c .product-ends .ensures)) (product-narrow (g .K·NumberKind .model) (g .K·NumberKind·met .rules) (c .args .self) (c .args .other));
+}
