@@ -1,4 +1,6 @@
 // Boxes of channel ranges.
+#![tactic(auto)]
+
 mod channels;
 mod opening;
 

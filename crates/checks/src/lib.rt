@@ -1,4 +1,6 @@
 // Tests that stand apart from the crates they test, so that those stay quick to prove.
+#![tactic(auto)]
+
 #[cfg(test)]
 mod kinds;
 #[cfg(test)]

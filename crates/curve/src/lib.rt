@@ -1,4 +1,6 @@
 // Curves: the square and the magnitude under one lifting rule, for every number kind.
+#![tactic(auto)]
+
 mod lifting;
 mod magnitudes;
 mod squares;

@@ -1,4 +1,6 @@
 // Exact fractions and their rounding: mathematics only.
+#![tactic(auto)]
+
 ghost use Rattle.std.specs.Prelude.{◌≡◌};
 ghost use Rattle.exact.specs.Floor.{Rounding};
 

@@ -1,4 +1,6 @@
 // Refusals: a cause and a place, made whole where they arise and passed on by `?`.
+#![tactic(auto)]
+
 mod fault;
 mod methods;
 

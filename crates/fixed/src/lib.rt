@@ -1,4 +1,6 @@
 // The fixed kind: marks on a grid of 1/65,536.
+#![tactic(auto)]
+
 mod kind;
 mod mark;
 

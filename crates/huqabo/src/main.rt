@@ -1,4 +1,6 @@
 // The program: scripts of calls, and the windows of a station.
+#![tactic(auto)]
+
 mod replay;
 mod stop;
 mod windows;

@@ -1,4 +1,6 @@
 // Number kinds: what a mark is worth, and how sums, products and quotients of marks are rounded below and above.
+#![tactic(auto)]
+
 mod kind;
 mod laws;
 

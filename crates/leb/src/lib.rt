@@ -1,4 +1,6 @@
 // Numbers in groups of seven bits (unsigned LEB128).
+#![tactic(auto)]
+
 mod numbers;
 mod place;
 

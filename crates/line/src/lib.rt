@@ -1,4 +1,6 @@
 // Lines of formulas, and their numbers in formula bytes.
+#![tactic(auto)]
+
 mod line;
 mod numbers;
 

@@ -1,4 +1,6 @@
 // Marks as exact decimals, for the program's answers.
+#![tactic(auto)]
+
 mod decimal;
 mod units;
 

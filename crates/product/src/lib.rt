@@ -1,4 +1,6 @@
 // The product of two records.
+#![tactic(auto)]
+
 ghost use Rattle.std.specs.Prelude.{◌≡◌};
 ghost use Rattle.slope.specs.Rules.{given, rec};
 ghost use Rattle.exact.specs.Fraction.{◌*F◌};

@@ -1,4 +1,6 @@
 // The quotient of two records.
+#![tactic(auto)]
+
 ghost use Rattle.std.specs.Prelude.{◌≡◌};
 ghost use Rattle.slope.specs.Rules.{divided, rec};
 ghost use Rattle.slope.specs.Rules as rules;

@@ -1,4 +1,6 @@
 // Reading formula bytes, one line at a time.
+#![tactic(auto)]
+
 mod guard;
 mod lines;
 

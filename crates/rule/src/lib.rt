@@ -1,4 +1,6 @@
 // The record of a line over a box, by the records of earlier lines.
+#![tactic(auto)]
+
 mod records;
 
 pub use records::record_of;

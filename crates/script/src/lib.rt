@@ -1,4 +1,6 @@
 // Scripts: one call a line, in words.
+#![tactic(auto)]
+
 mod call;
 mod counts;
 mod hex;

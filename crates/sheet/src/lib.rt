@@ -1,4 +1,6 @@
 // The sheet and its calls.
+#![tactic(auto)]
+
 mod sheet;
 
 pub use sheet::Sheet;

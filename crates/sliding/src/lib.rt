@@ -1,4 +1,6 @@
 // The sliding kind: marks with a mantissa of 24 bits and a scale.
+#![tactic(auto)]
+
 mod kind;
 mod mark;
 mod rounding;

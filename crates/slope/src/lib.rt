@@ -1,4 +1,6 @@
 // Second-order slope records and the rules of the simpler operations, for every number kind.
+#![tactic(auto)]
+
 mod choices;
 mod parts;
 mod record;

@@ -1,4 +1,6 @@
 // Spans of marks: each operation answers the narrowest span over all exact results, for every number kind.
+#![tactic(auto)]
+
 mod curves;
 mod ends;
 mod products;

@@ -1,1 +1,2 @@
 // The truth of slope records: mathematics only.
+#![tactic(auto)]

@@ -1,5 +1,7 @@
 // Scripts of calls with the answers that an independent exact model gives, answered again by the program's own code. What an
 // answer has behind ` (` is left out of the comparison.
+#![tactic(auto)]
+
 use desk::Station;
 use script::{KindName, call_of};
 use std::alloc::{AllocError, Global};

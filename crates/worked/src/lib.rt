@@ -1,4 +1,6 @@
 // The worked examples, proved against the definitions.
+#![tactic(auto)]
+
 ghost use Rattle.std.specs.Prelude.{◌≡◌};
 ghost use Rattle.worked.specs.Worked.{WorkedExamples};
 

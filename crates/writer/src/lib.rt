@@ -1,4 +1,6 @@
 // Writing formula bytes.
+#![tactic(auto)]
+
 mod lines;
 mod numbers;
 
