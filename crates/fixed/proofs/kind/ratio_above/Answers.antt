@@ -6,4 +6,4 @@ use Rattle.fixed.specs.Grid.{fixed_grid}
 use Rattle.fixed.proofs.kind.ratio_above.Goals as goal
 
 pub returns : goal.returns
-returns c h = c.mirrored.ensures ∙ above_of fixed_grid fixed_lawful c.args.n _ c.args.d h _ (omega (arith, ints)) (c.ratio-below.ensures h)
+returns c h = c.mirrored.ensures ∙ above_of fixed_grid fixed_lawful c.args.n _ c.args.d h _ (omega (arith, ints)) (c.ratio_below.ensures h)

@@ -4,10 +4,10 @@ use Rattle.std.proofs.lemmas.List.{drop_all}
 use Rattle.leb.proofs.Reading.{early, front, next, taken, turned_down}
 use Rattle.leb.proofs.numbers.number_steps.Goals as goal
 
-pub returns-in-default : goal.returns-in-default
-returns-in-default c =
+pub returns-in_default : goal.returns-in_default
+returns-in_default c =
     let r = front _ _ _ _ _ _ _ c.loop-at-test.true c.loop-at.invariant.1 in
-    record { value = turned_down _ _ _ _ _ _ _ _ _ _ r c.take-groups.ensures c.if-byte-lt128.true c.in-default.ensures; place = c.loop-at.invariant.2 }
+    record { value = turned_down _ _ _ _ _ _ _ _ _ _ r c.take-groups.ensures c.if-byte-lt128.true c.in_default.ensures; place = c.loop-at.invariant.2 }
 
 pub returns-then-byte-lt128 : goal.returns-then-byte-lt128
 returns-then-byte-lt128 c =

@@ -4,8 +4,8 @@ use Rattle.odd.specs.Grid.{whole}
 use Rattle.odd.specs.Signs.{ceiling_is, floor_is, small}
 use Rattle.odd.proofs.kind.counts.Goals as goal
 
-pub overflow-mul-result : goal.overflow-mul-result
-overflow-mul-result c = let p = small c.args.a in omega (arith, ints)
+pub overflow_mul-result : goal.overflow_mul-result
+overflow_mul-result c = let p = small c.args.a in omega (arith, ints)
 
 pub returns : goal.returns
 returns c =

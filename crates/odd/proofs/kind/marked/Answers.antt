@@ -14,6 +14,6 @@ pub returns-in-1 : goal.returns-in-1
 unfolding sign_of
 returns-in-1 c = search rules
 
-pub returns-in-default : goal.returns-in-default
+pub returns-in_default : goal.returns-in_default
 unfolding sign_of
-returns-in-default c = search rules
+returns-in_default c = search rules

@@ -13,5 +13,5 @@ returns-then-n-ltminus65536 c = count_under c.args.n (omega (arith, ints))
 
 pub returns : goal.returns
 returns c =
-    let e = plain_floor c.args.n _ 65536 c.ranges.n (omega arith) c.div-euclid.ensures in
+    let e = plain_floor c.args.n _ 65536 c.ranges.n (omega arith) c.div_euclid.ensures in
     at_sign _ _ (int_div_euclid c.args.n (pos 65536)) c.marked.ensures (omega (arith, ints)) ∙ count_inside c.args.n (omega (arith, ints)) (omega (arith, ints))

@@ -11,11 +11,11 @@ returns-then-scale-gt-COARSEST c h =
     let s = settles_here c.args.q.n c.args.k c.settle-s.result.mantissa c.args.q.d c.settle-s.result.scale c.ranges.k c.requires.floor c.settle-s.ensures in
     none_at c.args.q.n c.args.q.d c.args.q.t c.requires.held c.settle-s.result.mantissa c.settle-s.result.scale s h (omega arith)
 
-pub invariant-of-mark : goal.invariant-of-mark
-invariant-of-mark c =
+pub invariant_of-mark : goal.invariant_of-mark
+invariant_of-mark c =
     let s = settles_here c.args.q.n c.args.k c.settle-s.result.mantissa c.args.q.d c.settle-s.result.scale c.ranges.k c.requires.floor c.settle-s.ensures in
     let e = plain32 c.settle-s.result.mantissa (let b = c.settle-s.ensures.small in omega arith) in
-    (normal_at c.args.q.n c.args.q.d c.args.q.t c.requires.held c.settle-s.result.mantissa c.settle-s.result.scale s _ e (omega arith), tt)
+    record { normal = normal_at c.args.q.n c.args.q.d c.args.q.t c.requires.held c.settle-s.result.mantissa c.settle-s.result.scale s _ e (omega arith) }
 
 pub returns-then-scale-lt-COARSEST : goal.returns-then-scale-lt-COARSEST
 returns-then-scale-lt-COARSEST c h =
@@ -23,11 +23,11 @@ returns-then-scale-lt-COARSEST c h =
     let e = plain32 c.settle-s.result.mantissa (let b = c.settle-s.ensures.small in omega arith) in
     some_at c.args.q.n c.args.q.d c.args.q.t c.requires.held c.settle-s.result.mantissa c.settle-s.result.scale s h _ e refl (inside_at c.args.q.n c.args.q.d c.args.q.t c.requires.held c.settle-s.result.mantissa c.settle-s.result.scale s (omega arith) (small_scale c.settle-s.result.mantissa _ s.small c.if-scale-lt-COARSEST.true))
 
-pub invariant-of-mark-then-s-lt16777215 : goal.invariant-of-mark-then-s-lt16777215
-invariant-of-mark-then-s-lt16777215 c =
+pub invariant_of-mark-then-s-lt16777215 : goal.invariant_of-mark-then-s-lt16777215
+invariant_of-mark-then-s-lt16777215 c =
     let s = settles_here c.args.q.n c.args.k c.settle-s.result.mantissa c.args.q.d c.settle-s.result.scale c.ranges.k c.requires.floor c.settle-s.ensures in
     let e = plain32 c.settle-s.result.mantissa (let b = c.settle-s.ensures.small in omega arith) in
-    (normal_at c.args.q.n c.args.q.d c.args.q.t c.requires.held c.settle-s.result.mantissa c.settle-s.result.scale s _ e (omega arith), tt)
+    record { normal = normal_at c.args.q.n c.args.q.d c.args.q.t c.requires.held c.settle-s.result.mantissa c.settle-s.result.scale s _ e (omega arith) }
 
 pub returns-then-s-lt16777215 : goal.returns-then-s-lt16777215
 returns-then-s-lt16777215 c h =
@@ -35,11 +35,11 @@ returns-then-s-lt16777215 c h =
     let e = plain32 c.settle-s.result.mantissa (let b = c.settle-s.ensures.small in omega arith) in
     some_at c.args.q.n c.args.q.d c.args.q.t c.requires.held c.settle-s.result.mantissa c.settle-s.result.scale s h _ e refl (inside_at c.args.q.n c.args.q.d c.args.q.t c.requires.held c.settle-s.result.mantissa c.settle-s.result.scale s (omega arith) (small_size c.settle-s.result.mantissa _ (omega (arith, ints)) (omega arith)))
 
-pub overflow-mul-scaled : goal.overflow-mul-scaled
-overflow-mul-scaled c =
+pub overflow_mul-scaled : goal.overflow_mul-scaled
+overflow_mul-scaled c =
     let s = settles_here c.args.q.n c.args.k c.settle-s.result.mantissa c.args.q.d c.settle-s.result.scale c.ranges.k c.requires.floor c.settle-s.ensures in
     let e = plain32 c.settle-s.result.mantissa (let b = c.settle-s.ensures.small in omega arith) in
-    let v : to_z w64 (of_z w64 c.scaled.result) *ℤ to_z w64 c.args.q.d ≡ shifted c.settle-s.result.mantissa c.settle-s.result.scale *ℤ pos c.args.q.d = ap₂ ◌*ℤ◌ (to_z-of_z w64 c.scaled.result (record { sfits = c.scaled.type-inv }) ∙ c.scaled.ensures ∙ ap (λ (z : ℤ). shifted z c.settle-s.result.scale) e) (to_z_pos w64 c.args.q.d (omega arith)) in
+    let v : to_z w64 (of_z w64 c.scaled.result) *ℤ to_z w64 c.args.q.d ≡ shifted c.settle-s.result.mantissa c.settle-s.result.scale *ℤ pos c.args.q.d = ap₂ ◌*ℤ◌ (to_z-of_z w64 c.scaled.result (record { sfits = c.scaled.type_inv }) ∙ c.scaled.ensures ∙ ap (λ (z : ℤ). shifted z c.settle-s.result.scale) e) (to_z_pos w64 c.args.q.d (omega arith)) in
     let m : c.settle-s.result.mantissa ≡ pos 16777215 = (let b = c.settle-s.ensures.small in omega (arith, ints)) in
     let f = test_fits c.args.q.n c.args.q.d c.args.q.t c.requires.held c.settle-s.result.mantissa c.settle-s.result.scale s m in rw v (omega (arith, ints))
 
@@ -47,7 +47,7 @@ pub returns-then-scaled-q : goal.returns-then-scaled-q
 returns-then-scaled-q c h =
     let s = settles_here c.args.q.n c.args.k c.settle-s.result.mantissa c.args.q.d c.settle-s.result.scale c.ranges.k c.requires.floor c.settle-s.ensures in
     let e = plain32 c.settle-s.result.mantissa (let b = c.settle-s.ensures.small in omega arith) in
-    let v : to_z w64 (of_z w64 c.scaled.result) *ℤ to_z w64 c.args.q.d ≡ shifted c.settle-s.result.mantissa c.settle-s.result.scale *ℤ pos c.args.q.d = ap₂ ◌*ℤ◌ (to_z-of_z w64 c.scaled.result (record { sfits = c.scaled.type-inv }) ∙ c.scaled.ensures ∙ ap (λ (z : ℤ). shifted z c.settle-s.result.scale) e) (to_z_pos w64 c.args.q.d (omega arith)) in
+    let v : to_z w64 (of_z w64 c.scaled.result) *ℤ to_z w64 c.args.q.d ≡ shifted c.settle-s.result.mantissa c.settle-s.result.scale *ℤ pos c.args.q.d = ap₂ ◌*ℤ◌ (to_z-of_z w64 c.scaled.result (record { sfits = c.scaled.type_inv }) ∙ c.scaled.ensures ∙ ap (λ (z : ℤ). shifted z c.settle-s.result.scale) e) (to_z_pos w64 c.args.q.d (omega arith)) in
     let m : c.settle-s.result.mantissa ≡ pos 16777215 = (let b = c.settle-s.ensures.small in omega (arith, ints)) in
     let f = test_fits c.args.q.n c.args.q.d c.args.q.t c.requires.held c.settle-s.result.mantissa c.settle-s.result.scale s m in over_at c.args.q.n c.args.q.d c.args.q.t c.requires.held c.settle-s.result.mantissa c.settle-s.result.scale s h m (omega arith) (omega (arith, ints, v))
 
@@ -55,7 +55,7 @@ pub returns : goal.returns
 returns c h =
     let s = settles_here c.args.q.n c.args.k c.settle-s.result.mantissa c.args.q.d c.settle-s.result.scale c.ranges.k c.requires.floor c.settle-s.ensures in
     let e = plain32 c.settle-s.result.mantissa (let b = c.settle-s.ensures.small in omega arith) in
-    let v : to_z w64 (of_z w64 c.scaled.result) *ℤ to_z w64 c.args.q.d ≡ shifted c.settle-s.result.mantissa c.settle-s.result.scale *ℤ pos c.args.q.d = ap₂ ◌*ℤ◌ (to_z-of_z w64 c.scaled.result (record { sfits = c.scaled.type-inv }) ∙ c.scaled.ensures ∙ ap (λ (z : ℤ). shifted z c.settle-s.result.scale) e) (to_z_pos w64 c.args.q.d (omega arith)) in
+    let v : to_z w64 (of_z w64 c.scaled.result) *ℤ to_z w64 c.args.q.d ≡ shifted c.settle-s.result.mantissa c.settle-s.result.scale *ℤ pos c.args.q.d = ap₂ ◌*ℤ◌ (to_z-of_z w64 c.scaled.result (record { sfits = c.scaled.type_inv }) ∙ c.scaled.ensures ∙ ap (λ (z : ℤ). shifted z c.settle-s.result.scale) e) (to_z_pos w64 c.args.q.d (omega arith)) in
     let m : c.settle-s.result.mantissa ≡ pos 16777215 = (let b = c.settle-s.ensures.small in omega (arith, ints)) in
     let f = test_fits c.args.q.n c.args.q.d c.args.q.t c.requires.held c.settle-s.result.mantissa c.settle-s.result.scale s m in some_at c.args.q.n c.args.q.d c.args.q.t c.requires.held c.settle-s.result.mantissa c.settle-s.result.scale s h _ e refl (top_at c.args.q.n c.args.q.d c.args.q.t c.requires.held c.settle-s.result.mantissa c.settle-s.result.scale s m (omega arith) (omega (arith, ints, v)))
 

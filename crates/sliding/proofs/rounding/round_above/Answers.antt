@@ -10,4 +10,4 @@ use Rattle.sliding.proofs.rounding.round_above.Goals as goal
 pub returns : goal.returns
 returns c h =
     c.mirrored.ensures
-    ∙ above_of sliding_grid sliding_lawful (shifted c.args.q.n c.args.q.t) _ c.args.q.d h _ (negate_shifted _ c.args.q.n c.args.q.t (omega (arith, ints))) (c.round-below.ensures h)
+    ∙ above_of sliding_grid sliding_lawful (shifted c.args.q.n c.args.q.t) _ c.args.q.d h _ (negate_shifted _ c.args.q.n c.args.q.t (omega (arith, ints))) (c.round_below.ensures h)

@@ -10,4 +10,4 @@ use Rattle.sliding.proofs.rounding.shift_above.Goals as goal
 pub returns : goal.returns
 returns c h =
     c.mirrored.ensures
-    ∙ above_of sliding_grid sliding_lawful (shifted c.args.q.n c.args.q.t) _ (2 ^ c.args.q.j) h _ (negate_shifted _ c.args.q.n c.args.q.t (omega (arith, ints))) (c.shift-below.ensures h)
+    ∙ above_of sliding_grid sliding_lawful (shifted c.args.q.n c.args.q.t) _ (2 ^ c.args.q.j) h _ (negate_shifted _ c.args.q.n c.args.q.t (omega (arith, ints))) (c.shift_below.ensures h)

@@ -5,7 +5,7 @@ use Rattle.slope.proofs.choices.branch.Goals as goal
 
 pub returns : goal.returns
 returns g c = record {
-  value = c.branch-steps.ensures;
-  truth = subst (Branched g.K.NumberKind.model c.args.s.now c.args.q.now c.args.r.now) (sym c.branch-steps.ensures)
+  value = c.branch_steps.ensures;
+  truth = subst (Branched g.K.NumberKind.model c.args.s.now c.args.q.now c.args.r.now) (sym c.branch_steps.ensures)
       (branch_kept g.K.NumberKind.model g.met.K.NumberKind.rules c.args.s.now c.args.q.now c.args.r.now);
 }

@@ -6,7 +6,7 @@ use Rattle.slope.proofs.choices.greater.Goals as goal
 
 pub returns : goal.returns
 returns g c = record {
-  value = c.greater-steps.ensures;
-  truth = subst (Chosen g.K.NumberKind.model max_F c.args.p.now c.args.q.now) (sym c.greater-steps.ensures)
+  value = c.greater_steps.ensures;
+  truth = subst (Chosen g.K.NumberKind.model max_F c.args.p.now c.args.q.now) (sym c.greater_steps.ensures)
       (greater_chosen g.K.NumberKind.model g.met.K.NumberKind.rules c.args.p.now c.args.q.now);
 }

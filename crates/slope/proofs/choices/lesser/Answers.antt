@@ -6,7 +6,7 @@ use Rattle.slope.proofs.choices.lesser.Goals as goal
 
 pub returns : goal.returns
 returns g c = record {
-  value = c.lesser-steps.ensures;
-  truth = subst (Chosen g.K.NumberKind.model min_F c.args.p.now c.args.q.now) (sym c.lesser-steps.ensures)
+  value = c.lesser_steps.ensures;
+  truth = subst (Chosen g.K.NumberKind.model min_F c.args.p.now c.args.q.now) (sym c.lesser_steps.ensures)
       (lesser_chosen g.K.NumberKind.model g.met.K.NumberKind.rules c.args.p.now c.args.q.now);
 }

@@ -7,7 +7,7 @@ use Rattle.span.specs.Spans as spans
 
 pub returns : goal.returns
 returns g c = record {
-  value = c.sum-steps.ensures;
-  truth = subst (Kept g.K.NumberKind.model ◌+F◌ (spans.sum g.K.NumberKind.model c.args.p.now.u c.args.q.now.u) c.args.p.now c.args.q.now) (sym c.sum-steps.ensures)
+  value = c.sum_steps.ensures;
+  truth = subst (Kept g.K.NumberKind.model ◌+F◌ (spans.sum g.K.NumberKind.model c.args.p.now.u c.args.q.now.u) c.args.p.now c.args.q.now) (sym c.sum_steps.ensures)
       (sum_kept g.K.NumberKind.model g.met.K.NumberKind.rules c.args.place c.args.p.now c.args.q.now);
 }

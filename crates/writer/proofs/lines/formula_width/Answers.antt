@@ -8,7 +8,7 @@ use Rattle.writer.proofs.lines.formula_width.Goals as goal
 pub loop-line-preserved : goal.loop-line-preserved
 loop-line-preserved c =
     let e = width_more c.args.lines.now c.loop-line.line-index (length (encode (length c.args.lines.now))) (Channel 0) c.loop-line-test.true in
-    (omega (arith, c.loop-line.invariant.0, c.line-width-total.ensures.value, e), omega (arith, c.loop-line.invariant.1, c.line-width-total.ensures.bound))
+    (omega (arith, c.loop-line.invariant.0, c.line_width-total.ensures.value, e), omega (arith, c.loop-line.invariant.1, c.line_width-total.ensures.bound))
 
 pub returns : goal.returns
 returns c =

@@ -3,19 +3,19 @@ use Rattle.line.specs.Operations.{arity}
 use Rattle.writer.proofs.LineBytes.{fourth_room, head_room, next_room, third_room, whole_line}
 use Rattle.writer.proofs.lines.put_line.Goals as goal
 
-pub put-if-at-requires : goal.put-if-at-requires
-put-if-at-requires c = third_room c.args.line _ _ _ _ _ (c.from.ensures ∙ c.operation-operation.ensures) (c.arity-operands.ensures ∙ ap arity (sym c.from.ensures)) c.first.ensures c.second.ensures refl
+pub put_if-at-requires : goal.put_if-at-requires
+put_if-at-requires c = third_room c.args.line _ _ _ _ _ (c.from.ensures ∙ c.operation-operation.ensures) (c.arity-operands.ensures ∙ ap arity (sym c.from.ensures)) c.first.ensures c.second.ensures refl
     _ _ _ _ _ _ c.requires c.put-at.ensures.bytes c.put-at.ensures.end c.put-at-2.ensures.bytes c.put-at-2.ensures.end
 
-pub put-if-requires : goal.put-if-requires
-put-if-requires c = fourth_room c.args.line _ _ _ _ _ (c.from.ensures ∙ c.operation-operation.ensures) (c.arity-operands.ensures ∙ ap arity (sym c.from.ensures)) c.first.ensures c.second.ensures c.third.ensures
-    _ _ _ _ _ _ c.requires c.put-at.ensures.bytes c.put-at.ensures.end c.put-at-2.ensures.bytes c.put-at-2.ensures.end _ _ c.put-if-at.ensures.bytes c.put-if-at.ensures.end
+pub put_if-requires : goal.put_if-requires
+put_if-requires c = fourth_room c.args.line _ _ _ _ _ (c.from.ensures ∙ c.operation-operation.ensures) (c.arity-operands.ensures ∙ ap arity (sym c.from.ensures)) c.first.ensures c.second.ensures c.third.ensures
+    _ _ _ _ _ _ c.requires c.put-at.ensures.bytes c.put-at.ensures.end c.put-at-2.ensures.bytes c.put-at-2.ensures.end _ _ c.put_if-at.ensures.bytes c.put_if-at.ensures.end
 
 pub returns : goal.returns
 returns c =
     let p = whole_line c.args.line _ _ _ _ _ (c.from.ensures ∙ c.operation-operation.ensures) (c.arity-operands.ensures ∙ ap arity (sym c.from.ensures)) c.first.ensures c.second.ensures c.third.ensures
-    _ _ _ _ _ _ c.requires c.put-at.ensures.bytes c.put-at.ensures.end c.put-at-2.ensures.bytes c.put-at-2.ensures.end _ _ c.put-if-at.ensures.bytes c.put-if-at.ensures.end
-    _ _ c.put-if.ensures.bytes c.put-if.ensures.end in
+    _ _ _ _ _ _ c.requires c.put-at.ensures.bytes c.put-at.ensures.end c.put-at-2.ensures.bytes c.put-at-2.ensures.end _ _ c.put_if-at.ensures.bytes c.put_if-at.ensures.end
+    _ _ c.put_if.ensures.bytes c.put_if.ensures.end in
     record { bytes = p.0; end = p.1 }
 
 pub put-at-requires : goal.put-at-requires

@@ -11,7 +11,7 @@ count_room : (ls : List Line) (n size : ℕ) → n ≡ length (formula_bytes ls)
 count_room ls n size e h = let k = length-append (encode (length ls)) (lines_bytes ls) in omega (arith, k)
 
 pub put-at-requires : goal.put-at-requires
-put-at-requires c = count_room c.args.lines.now _ _ c.formula-width-needed.ensures c.if-out-needed.false
+put-at-requires c = count_room c.args.lines.now _ _ c.formula_width-needed.ensures c.if-out-needed.false
 
 start-room : (ls : List Line) (n at : ℕ) (out o : List ℕ) → n ≡ length (formula_bytes ls) → n ≤ length out → o ≡ written out 0 (encode (length ls)) → at ≡ 0 + length (encode (length ls)) → at + length (lines_bytes ls) ≤ length o
 start-room ls n at out o e h b s =
@@ -19,8 +19,8 @@ start-room ls n at out o e h b s =
     let l : length o ≡ length out = ap length b ∙ length_written out 0 (encode (length ls)) (count_room ls n (length out) e h) in
     omega (arith, k)
 
-pub put-lines-requires : goal.put-lines-requires
-put-lines-requires c = start-room c.args.lines.now _ _ c.args.out.now _ c.formula-width-needed.ensures c.if-out-needed.false c.put-at.ensures.bytes c.put-at.ensures.end
+pub put_lines-requires : goal.put_lines-requires
+put_lines-requires c = start-room c.args.lines.now _ _ c.args.out.now _ c.formula_width-needed.ensures c.if-out-needed.false c.put-at.ensures.bytes c.put-at.ensures.end
 
 all-bytes : (ls : List Line) (n at : ℕ) (out o last : List ℕ) → n ≡ length (formula_bytes ls) → n ≤ length out → o ≡ written out 0 (encode (length ls)) → at ≡ 0 + length (encode (length ls)) → last ≡ written o at (lines_bytes ls)
     → last ≡ formula_bytes ls ++ drop (length (formula_bytes ls)) out
@@ -32,6 +32,6 @@ answered ls n out h k e r = sym (rw (ne_eqb (length ls) 0 h, le-ltb 64 (length l
 
 pub returns : goal.returns
 returns c = record {
-  answer = answered c.args.lines.now _ c.args.out.now c.if-lines-eq0.false c.if-lines-gt64.false c.formula-width-needed.ensures c.if-out-needed.false;
-  bytes = all-bytes c.args.lines.now _ _ c.args.out.now _ _ c.formula-width-needed.ensures c.if-out-needed.false c.put-at.ensures.bytes c.put-at.ensures.end c.put-lines.ensures;
+  answer = answered c.args.lines.now _ c.args.out.now c.if-lines-eq0.false c.if-lines-gt64.false c.formula_width-needed.ensures c.if-out-needed.false;
+  bytes = all-bytes c.args.lines.now _ _ c.args.out.now _ _ c.formula_width-needed.ensures c.if-out-needed.false c.put-at.ensures.bytes c.put-at.ensures.end c.put_lines.ensures;
 }

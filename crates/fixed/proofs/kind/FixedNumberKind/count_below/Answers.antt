@@ -7,4 +7,4 @@ use Rattle.fixed.specs.Grid.{fixed_grid}
 use Rattle.fixed.proofs.kind.FixedNumberKind.count_below.Goals as goal
 
 pub returns : goal.returns
-returns c = at_below _ _ _ 1 (lit< tt) (c.ratio-below.ensures (lit< tt)) (omega (arith, ints)) ∙ below fixed_grid fixed_lawful _ _ (at_count c.args.n (lit< tt))
+returns c = at_below _ _ _ 1 (lit< tt) (c.ratio_below.ensures (lit< tt)) (omega (arith, ints)) ∙ below fixed_grid fixed_lawful _ _ (at_count c.args.n (lit< tt))

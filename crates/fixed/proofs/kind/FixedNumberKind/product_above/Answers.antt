@@ -8,10 +8,10 @@ use Rattle.fixed.specs.Grid.{fixed_grid}
 use Rattle.fixed.proofs.kind.FixedNumberKind.product_above.Goals as goal
 
 pub returns : goal.returns
-returns c = at_above _ _ _ 65536 (lit< tt) (c.ratio-above.ensures (lit< tt)) (plain_product c.args.self.count c.args.other.count (omega (arith, ints)) (omega (arith, ints))) ∙ product_above_is fixed_grid fixed_lawful c.args.self c.args.other
+returns c = at_above _ _ _ 65536 (lit< tt) (c.ratio_above.ensures (lit< tt)) (plain_product c.args.self.count c.args.other.count (omega (arith, ints)) (omega (arith, ints))) ∙ product_above_is fixed_grid fixed_lawful c.args.self c.args.other
 
-pub ratio-above-requires : goal.ratio-above-requires
-ratio-above-requires c =
+pub ratio_above-requires : goal.ratio_above-requires
+ratio_above-requires c =
     let e = plain_product c.args.self.count c.args.other.count (omega (arith, ints)) (omega (arith, ints)) in
     let k = product_bound c.args.self.count c.args.other.count 1073741823 1073741823 (omega (arith, ints)) (omega (arith, ints)) in
     record { positive = lit< tt; bounded = rw e (omega (arith, ints)) }

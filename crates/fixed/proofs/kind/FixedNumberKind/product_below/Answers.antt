@@ -8,4 +8,4 @@ use Rattle.fixed.specs.Grid.{fixed_grid}
 use Rattle.fixed.proofs.kind.FixedNumberKind.product_below.Goals as goal
 
 pub returns : goal.returns
-returns c = at_below _ _ _ 65536 (lit< tt) (c.ratio-below.ensures (lit< tt)) (plain_product c.args.self.count c.args.other.count (omega (arith, ints)) (omega (arith, ints))) ∙ product_below_is fixed_grid fixed_lawful c.args.self c.args.other
+returns c = at_below _ _ _ 65536 (lit< tt) (c.ratio_below.ensures (lit< tt)) (plain_product c.args.self.count c.args.other.count (omega (arith, ints)) (omega (arith, ints))) ∙ product_below_is fixed_grid fixed_lawful c.args.self c.args.other

@@ -10,7 +10,7 @@ pub returns-then-other-eq0 : goal.returns-then-other-eq0
 returns-then-other-eq0 c = quotient_above_nought fixed_grid fixed_lawful c.args.self c.args.other (omega (arith, ints))
 
 pub returns-then-other-lt0 : goal.returns-then-other-lt0
-returns-then-other-lt0 c = at_above _ _ _ _ (omega (arith, ints)) (c.ratio-above.ensures (omega (arith, ints))) (omega (arith, ints)) ∙ quotient_above_neg fixed_grid fixed_lawful c.args.self c.args.other _ (omega (arith, ints)) (omega (arith, ints))
+returns-then-other-lt0 c = at_above _ _ _ _ (omega (arith, ints)) (c.ratio_above.ensures (omega (arith, ints))) (omega (arith, ints)) ∙ quotient_above_neg fixed_grid fixed_lawful c.args.self c.args.other _ (omega (arith, ints)) (omega (arith, ints))
 
 pub returns : goal.returns
-returns c = at_above _ _ _ _ (omega (arith, ints)) (c.ratio-above-2.ensures (omega (arith, ints))) (omega (arith, ints)) ∙ quotient_above_pos fixed_grid fixed_lawful c.args.self c.args.other _ (omega (arith, ints)) (omega (arith, ints))
+returns c = at_above _ _ _ _ (omega (arith, ints)) (c.ratio_above-2.ensures (omega (arith, ints))) (omega (arith, ints)) ∙ quotient_above_pos fixed_grid fixed_lawful c.args.self c.args.other _ (omega (arith, ints)) (omega (arith, ints))

@@ -5,4 +5,4 @@ use Rattle.odd.specs.Signs.{in_order}
 use Rattle.odd.proofs.kind.SignNumberKind.at_most.Goals as goal
 
 pub returns : goal.returns
-returns c = ap₂ le_z (to_z-of_z w64 _ (record { sfits = c.whole.type-inv }) ∙ c.whole.ensures) (to_z-of_z w64 _ (record { sfits = c.whole-2.type-inv }) ∙ c.whole-2.ensures) ∙ sym (in_order c.args.self c.args.other)
+returns c = ap₂ le_z (to_z-of_z w64 _ (record { sfits = c.whole.type_inv }) ∙ c.whole.ensures) (to_z-of_z w64 _ (record { sfits = c.whole-2.type_inv }) ∙ c.whole-2.ensures) ∙ sym (in_order c.args.self c.args.other)

@@ -4,24 +4,24 @@ use Rattle.rule.specs.Rule.{rule}
 use Rattle.sheet.proofs.ReadLines.{Going, bad_line, bad_record, going_end, going_on, stands_err, stands_ok}
 use Rattle.sheet.proofs.sheet.Sheet.read_lines.Goals as goal
 
-pub returns-in-err-line : goal.returns-in-err-line
-returns-in-err-line g c =
+pub returns-in_err-line : goal.returns-in_err-line
+returns-in_err-line g c =
     let e = bad_line g.K.NumberKind.model (box_of c.args.self.now.over) c.args.count c.args.bytes.now c.args.from.at c.args.working.now c.loop-n.invariant.0 c.loop-n-test.true
-    (stands_err _ _ _ c.line-at.ensures c.in-err-line.was) _ c.from-residual.ensures.1 in
+    (stands_err _ _ _ c.line_at.ensures c.in_err-line.was) _ c.from_residual.ensures.1 in
     record { answer = e.answer_is; records = e.records_are; table = e.lines_are; over = c.loop-n.invariant.1; none = c.loop-n.invariant.2 }
 
-pub returns-in-err-made : goal.returns-in-err-made
-returns-in-err-made g c =
+pub returns-in_err-made : goal.returns-in_err-made
+returns-in_err-made g c =
     let e = bad_record g.K.NumberKind.model (box_of c.args.self.now.over) c.args.count c.args.bytes.now c.args.from.at c.args.working.now c.loop-n.invariant.0 c.loop-n-test.true
-    (stands_ok _ _ _ c.line-at.ensures c.in-ok-line.was)
-    (c.in-err-made.ensures.value ∙ ap (λ o. rule g.K.NumberKind.model (box_of o) (take c.loop-n.n c.loop-n.working) c.in-ok-line.line) c.loop-n.invariant.1) _ c.from-residual-in-err-made.ensures.1 in
+    (stands_ok _ _ _ c.line_at.ensures c.in_ok-line.was)
+    (c.in_err-made.ensures.value ∙ ap (λ o. rule g.K.NumberKind.model (box_of o) (take c.loop-n.n c.loop-n.working) c.in_ok-line.line) c.loop-n.invariant.1) _ c.from_residual-in_err-made.ensures.1 in
     record { answer = e.answer_is; records = e.records_are; table = e.lines_are; over = c.loop-n.invariant.1; none = c.loop-n.invariant.2 }
 
 pub loop-n-preserved : goal.loop-n-preserved
 loop-n-preserved g c = (
   going_on g.K.NumberKind.model (box_of c.args.self.now.over) c.args.count c.args.bytes.now c.args.from.at c.args.working.now c.loop-n.invariant.0 c.loop-n-test.true
-      (stands_ok _ _ _ c.line-at.ensures c.in-ok-line.was) c.keep.ensures
-      (c.in-ok-made.ensures.value ∙ ap (λ o. rule g.K.NumberKind.model (box_of o) (take c.loop-n.n c.loop-n.working) c.in-ok-line.line) c.loop-n.invariant.1)
+      (stands_ok _ _ _ c.line_at.ensures c.in_ok-line.was) c.keep.ensures
+      (c.in_ok-made.ensures.value ∙ ap (λ o. rule g.K.NumberKind.model (box_of o) (take c.loop-n.n c.loop-n.working) c.in_ok-line.line) c.loop-n.invariant.1)
       (omega (arith, c.loop-n.self.whole, c.loop-n-test.true, c.requires.2)) (omega (arith, c.loop-n-test.true, c.requires.1, c.requires.2, c.loop-n.invariant.0.long)),
   c.loop-n.invariant.1,
   c.loop-n.invariant.2,

@@ -7,5 +7,5 @@ use Rattle.sliding.proofs.kind.SlidingNumberKind.at_most.Goals as goal
 
 pub returns : goal.returns
 returns c =
-    ap₂ le_z (to_z-of_z w64 _ (record { sfits = c.units.type-inv }) ∙ c.units.ensures.value) (to_z-of_z w64 _ (record { sfits = c.units-2.type-inv }) ∙ c.units-2.ensures.value)
+    ap₂ le_z (to_z-of_z w64 _ (record { sfits = c.units.type_inv }) ∙ c.units.ensures.value) (to_z-of_z w64 _ (record { sfits = c.units-2.type_inv }) ∙ c.units-2.ensures.value)
     ∙ sym (le_value (sliding_grid.size c.args.self) (sliding_grid.size c.args.other))

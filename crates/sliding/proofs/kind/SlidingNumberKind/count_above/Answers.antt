@@ -8,5 +8,5 @@ use Rattle.sliding.proofs.kind.SlidingNumberKind.count_above.Goals as goal
 
 pub returns : goal.returns
 returns c =
-    above_whole _ _ _ (c.args.n *ℤ pos 256) _ _ c.whole.ensures.0 c.shift-above.ensures (omega (arith, ints)) (lit< tt)
+    above_whole _ _ _ (c.args.n *ℤ pos 256) _ _ c.whole.ensures.0 c.shift_above.ensures (omega (arith, ints)) (lit< tt)
     ∙ above_cong sliding_model sliding_rules (at_count c.args.n (lit< tt))

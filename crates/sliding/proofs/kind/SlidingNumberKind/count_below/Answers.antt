@@ -8,5 +8,5 @@ use Rattle.sliding.proofs.kind.SlidingNumberKind.count_below.Goals as goal
 
 pub returns : goal.returns
 returns c =
-    below_whole _ _ _ (c.args.n *ℤ pos 256) _ _ c.whole.ensures.0 c.shift-below.ensures (omega (arith, ints)) (lit< tt)
+    below_whole _ _ _ (c.args.n *ℤ pos 256) _ _ c.whole.ensures.0 c.shift_below.ensures (omega (arith, ints)) (lit< tt)
     ∙ below_cong sliding_model sliding_rules (at_count c.args.n (lit< tt))

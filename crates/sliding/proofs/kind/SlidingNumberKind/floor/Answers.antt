@@ -6,5 +6,5 @@ use Rattle.sliding.proofs.kind.SlidingNumberKind.floor.Goals as goal
 
 pub returns : goal.returns
 returns c =
-    plain_floor8 c.units.result _ c.units.type-inv (to_z-of_z w64 _ (record { sfits = c.units.type-inv }) ∙ c.units.ensures.value)
+    plain_floor8 c.units.result _ c.units.type_inv (to_z-of_z w64 _ (record { sfits = c.units.type_inv }) ∙ c.units.ensures.value)
     ∙ sym (floor_value (sliding_grid.size c.args.self))

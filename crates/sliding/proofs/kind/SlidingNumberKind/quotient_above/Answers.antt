@@ -10,7 +10,7 @@ pub returns-then-other-eq0 : goal.returns-then-other-eq0
 returns-then-other-eq0 c = quotient_above_nought sliding_grid sliding_lawful c.args.self c.args.other (shifted_nought c.args.other.mantissa c.args.other.scale (let b = c.args.other.normal.0 in omega (arith, ints)))
 
 pub returns-then-other-lt0 : goal.returns-then-other-lt0
-returns-then-other-lt0 c = let b = c.args.other.normal.0 in let a = c.args.self.normal.0 in div_above_neg c.args.self c.args.other _ _ _ _ _ _ (omega (arith, ints)) c.quotient.ensures (omega (arith, ints)) (omega (arith, ints)) c.round-above.ensures
+returns-then-other-lt0 c = let b = c.args.other.normal.0 in let a = c.args.self.normal.0 in div_above_neg c.args.self c.args.other _ _ _ _ _ _ (omega (arith, ints)) c.quotient.ensures (omega (arith, ints)) (omega (arith, ints)) c.round_above.ensures
 
 pub returns : goal.returns
-returns c = let b = c.args.other.normal.0 in let a = c.args.self.normal.0 in div_above_pos c.args.self c.args.other _ _ _ _ _ _ (omega (arith, ints)) c.quotient-2.ensures (omega (arith, ints)) (omega (arith, ints)) c.round-above-2.ensures
+returns c = let b = c.args.other.normal.0 in let a = c.args.self.normal.0 in div_above_pos c.args.self c.args.other _ _ _ _ _ _ (omega (arith, ints)) c.quotient-2.ensures (omega (arith, ints)) (omega (arith, ints)) c.round_above-2.ensures

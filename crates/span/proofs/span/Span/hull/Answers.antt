@@ -5,6 +5,6 @@ use Rattle.span.proofs.span.Span.hull.Goals as goal
 
 pub returns : goal.returns
 returns g c = record {
-  value = c.hull-ends.ensures;
-  narrowest = subst (HullLaw g.K.NumberKind.model c.args.self c.args.other) (sym c.hull-ends.ensures) (hull_narrow g.K.NumberKind.model g.met.K.NumberKind.rules c.args.self c.args.other);
+  value = c.hull_ends.ensures;
+  narrowest = subst (HullLaw g.K.NumberKind.model c.args.self c.args.other) (sym c.hull_ends.ensures) (hull_narrow g.K.NumberKind.model g.met.K.NumberKind.rules c.args.self c.args.other);
 }

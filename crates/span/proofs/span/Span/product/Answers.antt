@@ -5,6 +5,6 @@ use Rattle.span.proofs.span.Span.product.Goals as goal
 
 pub returns : goal.returns
 returns g c = record {
-  value = c.product-ends.ensures;
-  narrowest = subst (ProductLaw g.K.NumberKind.model c.args.self c.args.other) (sym c.product-ends.ensures) (product_narrow g.K.NumberKind.model g.met.K.NumberKind.rules c.args.self c.args.other);
+  value = c.product_ends.ensures;
+  narrowest = subst (ProductLaw g.K.NumberKind.model c.args.self c.args.other) (sym c.product_ends.ensures) (product_narrow g.K.NumberKind.model g.met.K.NumberKind.rules c.args.self c.args.other);
 }

@@ -5,6 +5,6 @@ use Rattle.span.proofs.span.Span.quotient.Goals as goal
 
 pub returns : goal.returns
 returns g c = record {
-  value = c.quotient-ends.ensures;
-  narrowest = subst (QuotientLaw g.K.NumberKind.model c.args.self c.args.other) (sym c.quotient-ends.ensures) (quotient_law g.K.NumberKind.model g.met.K.NumberKind.rules c.args.self c.args.other);
+  value = c.quotient_ends.ensures;
+  narrowest = subst (QuotientLaw g.K.NumberKind.model c.args.self c.args.other) (sym c.quotient_ends.ensures) (quotient_law g.K.NumberKind.model g.met.K.NumberKind.rules c.args.self c.args.other);
 }

@@ -5,6 +5,6 @@ use Rattle.span.proofs.span.Span.sum.Goals as goal
 
 pub returns : goal.returns
 returns g c = record {
-  value = c.sum-ends.ensures;
-  narrowest = subst (SumLaw g.K.NumberKind.model c.args.self c.args.other) (sym c.sum-ends.ensures) (sum_narrow g.K.NumberKind.model g.met.K.NumberKind.rules c.args.self c.args.other);
+  value = c.sum_ends.ensures;
+  narrowest = subst (SumLaw g.K.NumberKind.model c.args.self c.args.other) (sym c.sum_ends.ensures) (sum_narrow g.K.NumberKind.model g.met.K.NumberKind.rules c.args.self c.args.other);
 }
