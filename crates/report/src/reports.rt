@@ -30,10 +30,10 @@ pub fn range_of<K: NumberKind>(b: &ChannelBox, r: &Record<K>) -> Span<K>
 }
 
 fn between(low: i64, high: i64) -> Report
-    requires pos_bound { neg_ℤ (pos (2 ^ 56)) ≤ℤ low }
-    requires low_bound { low ≤ℤ pos (2 ^ 56) }
-    requires pos_bound_2 { neg_ℤ (pos (2 ^ 56)) ≤ℤ high }
-    requires high_bound { high ≤ℤ pos (2 ^ 56) }
+    requires low_from { neg_ℤ (pos (2 ^ 56)) ≤ℤ low }
+    requires low_to { low ≤ℤ pos (2 ^ 56) }
+    requires high_from { neg_ℤ (pos (2 ^ 56)) ≤ℤ high }
+    requires high_to { high ≤ℤ pos (2 ^ 56) }
     ensures { result ≡ reports.report_of low high }
 {
     let middle = (low + high).div_euclid(2);

@@ -54,7 +54,7 @@ fit_constant b n z e = go (is_count z) refl e
     within (negsuc k) h = omega arith
 
     go : (t : Bool) → is_count z ≡ t → judged t n ≡ Ok tt → folded z ≤ 2147483647
-    go true h q = let p = both_true (le_z (neg_ℤ (pos 1073741823)) z) (le_z z (pos 1073741823)) h in let l = le_z_yes p.0 in let u = le_z_yes p.1 in within z (omega (arith, ints))
+    go true h q = let p = both_true (le_z (neg_ℤ (pos 1073741823)) z) (le_z z (pos 1073741823)) h in let l = le_z_yes {a = neg_ℤ (pos 1073741823)} {b = z} p.0 in let u = le_z_yes {a = z} {b = pos 1073741823} p.1 in within z (omega (arith, ints))
     go false h q = absurd (err_ok q)
 
 two : (n l r : ℕ) → n ≤ 64 → earlier_lines n (l ∷ r ∷ []) ≡ Ok tt → (l ≤ 2147483647) × (r ≤ 2147483647) × (0 ≤ 2147483647)

@@ -22,9 +22,9 @@ impl Sheet {
         count: usize,
         from: Place,
     ) -> Result<(), Fault>
-        requires held_value { self.old.held ≡ 0 }
-        requires in_bounds { 64 ≤ length working.old }
-        requires count_bound { count ≤ 64 }
+        requires empty { self.old.held ≡ 0 }
+        requires room { 64 ≤ length working.old }
+        requires most { count ≤ 64 }
         ensures answer { result ≡ (read_lines K.NumberKind.model (box_of self.old.over) count bytes.now from.at [] []).answer }
         ensures records { working.new ≡ overlaid (read_lines K.NumberKind.model (box_of self.old.over) count bytes.now from.at [] []).records working.old }
         ensures table { is_ok result ≡ true → take count self.new.lines ≡ (read_lines K.NumberKind.model (box_of self.old.over) count bytes.now from.at [] []).lines }
@@ -43,8 +43,8 @@ impl Sheet {
 
     // Reads a formula onto a sheet that holds no line.
     fn fill<K: NumberKind>(&mut self, working: &mut [Record<K>], bytes: &[u8]) -> Result<(), Fault>
-        requires held_value { self.old.held ≡ 0 }
-        requires in_bounds { 64 ≤ length working.old }
+        requires empty { self.old.held ≡ 0 }
+        requires room { 64 ≤ length working.old }
         ensures answer { result ≡ (read_formula K.NumberKind.model (box_of self.old.over) bytes.now).answer }
         ensures sheet { contents self.new ≡ filled (contents self.old) result (read_formula K.NumberKind.model (box_of self.old.over) bytes.now).lines }
         ensures records { working.new ≡ overlaid (read_formula K.NumberKind.model (box_of self.old.over) bytes.now).records working.old }

@@ -5,7 +5,9 @@ use Rattle.report.specs.Near.{Covers, Near}
 use Rattle.report.proofs.reports.report_of.Goals as goal
 
 pub between-requires : goal.between-requires
-between-requires g c = all_small g.K.NumberKind.model g.met.K.NumberKind.rules (box_of c.args.b.now) c.args.r.now c.range-range.ensures c.floor.ensures c.ceiling.ensures
+between-requires g c =
+    let s = all_small g.K.NumberKind.model g.met.K.NumberKind.rules (box_of c.args.b.now) c.args.r.now c.range-range.ensures c.floor.ensures c.ceiling.ensures in
+    record { low_from = s.0; low_to = s.1; high_from = s.2; high_to = s.3 }
 
 pub returns : goal.returns
 returns g c =
