@@ -6,6 +6,7 @@ mod stop;
 mod windows;
 
 use std::env;
+use std::process::ExitCode;
 use stop::Stop;
 
 const USAGE: &str = "\
@@ -34,6 +35,10 @@ fn run(rt: &HostRuntime) -> Result<(), Stop> {
     }
 }
 
-fn main(rt: HostRuntime) -> Result<(), Stop> {
-    run(&rt)
+// An error ends the program with status 1; what is to be said of it was said where it was met.
+fn main(rt: HostRuntime) -> ExitCode {
+    match run(&rt) {
+        Ok(()) => ExitCode::SUCCESS,
+        Err(_) => ExitCode::FAILURE,
+    }
 }
