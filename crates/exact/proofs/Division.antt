@@ -1,9 +1,9 @@
 -- One over a fraction that is not 0.
-use Rattle.std.proofs.Common.{◌≡◌, ℕ, zero, suc, ◌<◌, ◌≢◌, List, [], ◌∷◌, ℤ, pos, negsuc, ◌*ℤ◌, neg_ℤ, ◌≤ℤ◌, ◌<ℤ◌, Some, None, Option, refl, ap, ◌∙◌, arith}
+use Rattle.std.proofs.Common.{◌≡◌, ℕ, zero, suc, ◌<◌, ◌≢◌, [], ◌∷◌, ℤ, pos, negsuc, ◌*ℤ◌, ◌<ℤ◌, Some, None, refl, ap, arith}
 use borrow.Author.Differences.{ints}
-use Rattle.exact.specs.Fraction.{Frac, ratio, whole, ◌+F◌, ◌*F◌, neg_F, ◌-F◌, ◌≈◌, ◌≤F◌, ◌<F◌, Nonzero, inv_F, over_top, unless_nought, inverse}
-use Rattle.exact.proofs.Ring.{num, ◌⊖◌, ◌⊗◌, ⊝◌, combine, x0, x1, x2, x3, x4, x5}
-use Rattle.exact.proofs.Integers.{ring, cancel}
+use Rattle.exact.specs.Fraction.{Frac, ratio, whole, ◌*F◌, ◌≈◌, ◌≤F◌, ◌<F◌, Nonzero, inv_F, over_top, unless_nought, inverse}
+use Rattle.exact.proofs.Ring.{num, ◌⊖◌, ◌⊗◌, ⊝◌, combine, x0, x1, x2, x3}
+use Rattle.exact.proofs.Integers.{ring}
 use Rattle.exact.proofs.Fractions.{F_ring}
 use Rattle.exact.proofs.Order.{NN, le→nn, nn→le, nn_mul, nn-≈}
 use Rattle.exact.proofs.Signs.{0F}

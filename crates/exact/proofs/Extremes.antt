@@ -1,5 +1,5 @@
 -- The greater and the lesser of two fractions.
-use Rattle.std.proofs.Common.{◌≡◌, List, [], ◌∷◌, pos, refl}
+use Rattle.std.proofs.Common.{[], ◌∷◌, pos, refl}
 use Rattle.exact.specs.Fraction.{Frac, neg_F, ◌≈◌, ◌≤F◌, max_F, min_F}
 use Rattle.exact.proofs.Ring.{num, ⊝◌, combine, x0, x1}
 use Rattle.exact.proofs.Fractions.{F_ring, ≈_refl}

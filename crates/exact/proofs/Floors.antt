@@ -1,12 +1,11 @@
 -- The floor over any denominator: the one proof of rounding.
-use Rattle.std.proofs.Common.{◌≡◌, ℕ, ◌+◌, ◌<◌, List, [], ◌∷◌, ℤ, pos, negsuc, ◌+ℤ◌, ◌*ℤ◌, neg_ℤ, ◌≤ℤ◌, ◌<ℤ◌, sym, refl, ap, ◌∙◌, lt_of_mul-lt-mul_right, arith}
-use lib.IntN.{neg_ℤ-neg_ℤ}
+use Rattle.std.proofs.Common.{◌≡◌, ℕ, ◌+◌, ◌<◌, [], ◌∷◌, ℤ, pos, negsuc, ◌+ℤ◌, ◌*ℤ◌, neg_ℤ, ◌≤ℤ◌, ◌<ℤ◌, refl, lt_of_mul-lt-mul_right, arith}
 use borrow.Author.Differences.{ints, up, down}
 use Rattle.std.specs.Int.{int_div_euclid}
-use Rattle.exact.specs.Fraction.{Frac, ratio, neg_F, ◌≈◌, ◌≤F◌}
+use Rattle.exact.specs.Fraction.{Frac, neg_F}
 use Rattle.exact.specs.Floor.{Floor, Ceiling, floor, ceiling}
 use Rattle.exact.proofs.Ring.{num, ◌⊕◌, ◌⊗◌, x0, x1}
-use Rattle.exact.proofs.Integers.{ring, neg-*ℤ}
+use Rattle.exact.proofs.Integers.{ring}
 use Rattle.exact.proofs.Order.{neg_mono, neg_right}
 
 pub floor_low : (m : ℤ) (d : ℕ) → 0 < d → (int_div_euclid m (pos d) *ℤ pos d) ≤ℤ m

@@ -1,7 +1,7 @@
 -- Fractions are a commutative ring up to ≈, so the solver serves them.
-use Rattle.std.proofs.Common.{◌≡◌, List, [], ◌∷◌, ℤ, pos, negsuc, ◌+ℤ◌, ◌*ℤ◌, neg_ℤ, sym, refl, ap, ◌∙◌, ap₂}
+use Rattle.std.proofs.Common.{◌≡◌, List, [], ◌∷◌, ℤ, pos, negsuc, ◌+ℤ◌, ◌*ℤ◌, sym, refl, ap, ◌∙◌, ap₂}
 use Rattle.exact.specs.Fraction.{Frac, whole, ◌+F◌, ◌*F◌, neg_F, ◌-F◌, ◌≈◌}
-use Rattle.exact.proofs.Ring.{CRing, Expr, var, num, ◌⊕◌, ◌⊖◌, ◌⊗◌, ⊝◌, norm, ev, solve, combine, x0, x1, x2, x3, x4, x5, x6, x7}
+use Rattle.exact.proofs.Ring.{CRing, Expr, num, ◌⊕◌, ◌⊖◌, ◌⊗◌, ⊝◌, norm, ev, solve, combine, x0, x1, x2, x3, x4, x5, x6, x7}
 use Rattle.exact.proofs.Integers.{ring, ℤ_ring, cancel}
 
 -- a fraction of expressions, to write a law's cross products by

@@ -1,10 +1,10 @@
 -- The order of fractions. An inequality of expressions is shown by a certificate: a difference that is not negative.
-use Rattle.std.proofs.Common.{◌≡◌, Bool, true, false, cond, T, ◌⊎◌, List, [], ◌∷◌, ℤ, pos, ◌*ℤ◌, ◌≤ℤ◌, ◌<ℤ◌, sym, refl, subst, inl, inr, ⊎_elim, arith}
+use Rattle.std.proofs.Common.{◌≡◌, Bool, true, false, cond, T, ◌⊎◌, List, [], ◌∷◌, pos, ◌*ℤ◌, ◌≤ℤ◌, ◌<ℤ◌, sym, refl, subst, inl, inr, ⊎_elim, arith}
 use lib.Signed.{le_z, le_z_yes}
 use borrow.Author.Differences.{ints}
 use Rattle.std.proofs.lemmas.Int.{by_lt_z}
-use Rattle.exact.specs.Fraction.{Frac, whole, ◌+F◌, ◌*F◌, neg_F, ◌-F◌, ◌≈◌, ◌≤F◌, ◌<F◌, le_F}
-use Rattle.exact.proofs.Ring.{Expr, num, ◌⊕◌, ◌⊖◌, ◌⊗◌, ⊝◌, norm, ev, x0, x1, x2, x3}
+use Rattle.exact.specs.Fraction.{Frac, ◌+F◌, ◌*F◌, neg_F, ◌-F◌, ◌≈◌, ◌≤F◌, ◌<F◌, le_F}
+use Rattle.exact.proofs.Ring.{Expr, ◌⊕◌, ◌⊖◌, ⊝◌, norm, ev, x0, x1, x2, x3}
 use Rattle.exact.proofs.Integers.{≤ℤ_cancel, ≤ℤ_times, neg-*ℤ, nn_times}
 use Rattle.exact.proofs.Fractions.{F_ring, ring_F, ≈_sym, neg_neg}
 

@@ -1,5 +1,5 @@
 -- Which numbers are the marks of the fixed kind: exactly m/65,536 with m a count.
-use Rattle.std.specs.Prelude.{◌≡◌, ◌≤◌, ℤ, unsigned_abs}
+use Rattle.std.specs.Prelude.{◌≤◌, ℤ, unsigned_abs}
 use Rattle.std.proofs.Common.{lit<}
 use Rattle.exact.specs.Fraction.{ratio, ◌≈◌}
 use Rattle.fixed.specs.Grid.{fixed_model}

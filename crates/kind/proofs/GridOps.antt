@@ -1,11 +1,10 @@
 -- The operations of a grid as ratios of whole numbers of units. `round` stands for either direction.
-use Rattle.std.proofs.Common.{◌≡◌, ℕ, zero, suc, ◌*◌, ◌<◌, List, [], ◌∷◌, ℤ, pos, negsuc, ◌+ℤ◌, ◌*ℤ◌, neg_ℤ, Some, None, Option, sym, refl, ap, ◌∙◌, arith}
+use Rattle.std.proofs.Common.{◌≡◌, ℕ, zero, suc, ◌<◌, [], ◌∷◌, ℤ, pos, ◌+ℤ◌, ◌*ℤ◌, neg_ℤ, None, Option, sym, refl, ap, ◌∙◌, arith}
 use Rattle.exact.specs.Optional.{◌>>=◌}
 use Rattle.exact.specs.Fraction.{Frac, ◌+F◌, ◌*F◌, inv_F, over_top, unless_nought, inverse, ◌≈◌}
 use Rattle.exact.proofs.Ring.{num, x0, x1, x2, ◌⊗◌, ◌⊕◌, ⊝◌}
 use Rattle.exact.proofs.Integers.{ring}
-use Rattle.exact.proofs.Fractions.{≈_sym}
-use Rattle.kind.specs.Model.{Model, Rules, sum_below, sum_above, product_below, product_above, quotient_below, quotient_above}
+use Rattle.kind.specs.Model.{sum_below, sum_above, product_below, product_above, quotient_below, quotient_above}
 use Rattle.kind.specs.Grid.{Grid, Lawful, grid_value, grid_below, grid_above, grid_model, units_over}
 use Rattle.kind.proofs.Orders.{below_cong, above_cong}
 use Rattle.kind.proofs.GridRules.{grid_rules}

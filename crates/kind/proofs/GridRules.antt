@@ -1,5 +1,5 @@
 -- A lawful grid keeps the rules of a kind: rounding over any unit and any denominator, from the one theorem of the floor.
-use Rattle.std.proofs.Common.{◌≡◌, ℕ, ◌*◌, ◌<◌, Bool, true, false, cond, ◌&&◌, T, List, [], ◌∷◌, ℤ, pos, ◌*ℤ◌, neg_ℤ, ◌≤ℤ◌, ◌<ℤ◌, Some, None, Option, sym, refl, ap, ◌∙◌, subst, arith}
+use Rattle.std.proofs.Common.{◌≡◌, ℕ, ◌*◌, ◌<◌, Bool, true, false, cond, ◌&&◌, T, [], ◌∷◌, ℤ, pos, ◌*ℤ◌, neg_ℤ, ◌≤ℤ◌, ◌<ℤ◌, Some, None, Option, sym, refl, ap, ◌∙◌, subst, arith}
 use borrow.Author.Differences.{ints}
 use Rattle.exact.specs.Fraction.{Frac, whole, neg_F, ◌≈◌, ◌≤F◌, le_F}
 use Rattle.exact.specs.Floor.{Floor, floor}

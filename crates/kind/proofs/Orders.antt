@@ -1,8 +1,8 @@
 -- From the rules of a kind: rounding is one function of the value, and keeps the order.
-use Rattle.std.proofs.Common.{◌≡◌, Some, None, Option, sym, refl, ap, ◌∙◌, subst}
-use Rattle.exact.specs.Fraction.{Frac, neg_F, ◌≈◌, ◌≤F◌}
+use Rattle.std.proofs.Common.{◌≡◌, Some, None, Option, refl, ap, subst}
+use Rattle.exact.specs.Fraction.{Frac, ◌≈◌}
 use Rattle.exact.proofs.Fractions.{≈_sym, neg_neg}
-use Rattle.exact.proofs.Order.{≤F_refl, ≤F_trans, ≤F_of_≈, ≤F_antisym, neg_mono, neg_left}
+use Rattle.exact.proofs.Order.{≤F_trans, ≤F_of_≈, ≤F_antisym, neg_mono, neg_left}
 use Rattle.kind.specs.Model.{Model, Rules, Inside, Down, Up}
 use Rattle.kind.specs.Rounding.{Orderly}
 

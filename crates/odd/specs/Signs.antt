@@ -1,5 +1,5 @@
 -- The odd kind's grid is lawful, and what its code computes is rounding.
-use Rattle.std.specs.Prelude.{◌≡◌, zero, suc, ◌<◌, ◌≤◌, cond, ℤ, pos, negsuc, ◌+ℤ◌, ◌*ℤ◌, neg_ℤ, ◌≤ℤ◌, ◌<ℤ◌, Some, None, Option, int_le, unsigned_abs, refl}
+use Rattle.std.specs.Prelude.{◌≡◌, zero, suc, ◌<◌, ◌≤◌, ℤ, pos, negsuc, ◌+ℤ◌, ◌*ℤ◌, neg_ℤ, ◌≤ℤ◌, ◌<ℤ◌, Some, None, Option, int_le, unsigned_abs, refl}
 use Rattle.std.proofs.Common.{◌∙◌, ap, subst, sym, arith, lit<, lit≤}
 use Rattle.std.proofs.lemmas.Int.{ints}
 use Rattle.std.specs.Int.Signed.{le_z_yes}
@@ -7,9 +7,9 @@ use Rattle.std.specs.Int.{int_div_euclid}
 use Rattle.exact.proofs.Floors.{floor_greatest, floor_low}
 use Rattle.exact.proofs.Integers.{≤ℤ_cancel, ≤ℤ_trans}
 use Rattle.exact.specs.Floor.{ceiling, floor}
-use Rattle.exact.specs.Fraction.{◌*F◌, ◌+F◌, inv_F, le_F, neg_F, over_top}
+use Rattle.exact.specs.Fraction.{◌*F◌, inv_F, le_F, neg_F, over_top}
 use Rattle.exact.specs.Optional.{◌>>=◌}
-use Rattle.kind.proofs.GridOps.{below, product_above_is, product_below_is, sum_above_is, sum_below_is}
+use Rattle.kind.proofs.GridOps.{below, sum_above_is, sum_below_is}
 use Rattle.kind.proofs.GridRules.{above_of, grid_rules, ratio_none_over, ratio_none_under, ratio_some}
 use Rattle.kind.specs.Grid.{Lawful, Nearest, grid_above, grid_below, grid_value, inside?, units_over}
 use Rattle.kind.specs.Model.{Rules, at_most, count, product_above, product_below, quotient_above, quotient_below, sum_above, sum_below}

@@ -1,5 +1,5 @@
 -- The product of true records is true.
-use Rattle.std.proofs.Common.{◌≡◌, ℕ, T, Some, Option}
+use Rattle.std.proofs.Common.{◌≡◌, ℕ, Some, Option}
 use Rattle.exact.specs.Fraction.{Frac, ◌*F◌, ◌+F◌}
 use Rattle.kind.specs.Model.{Model, Rules}
 use Rattle.slope.proofs.Chains.{ordered_u, ordered_u0, sloped, slopes_of, step, told}

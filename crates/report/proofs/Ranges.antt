@@ -3,7 +3,6 @@ use Rattle.std.proofs.Common.{◌≡◌, Some, None, Option, refl}
 use Rattle.std.specs.List.{slice_get}
 use Rattle.boxes.specs.Boxes.{Box}
 use Rattle.exact.proofs.Order.{≤F_refl}
-use Rattle.exact.proofs.Ring.{ev}
 use Rattle.exact.specs.Fraction.{Frac, ◌-F◌, ◌≤F◌}
 use Rattle.exact.specs.Optional.{◌>>=◌}
 use Rattle.kind.specs.Model.{Model, Rules, count}

@@ -6,7 +6,6 @@ use Rattle.exact.specs.Fraction.{Frac, ◌-F◌, ◌≤F◌}
 use Rattle.kind.specs.Model.{Model, count}
 use Rattle.slope.specs.Truth.{True}
 use Rattle.slope.specs.declared.record.Record.{Record}
-use Rattle.report.specs.Reports.{high, low}
 use Rattle.report.specs.declared.answer.Report.{Report}
 
 -- u, counted in 1/65,536, is at most the margin away from the middle

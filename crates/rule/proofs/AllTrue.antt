@@ -1,5 +1,5 @@
 -- If each line has the record that the rules give it, each tells the truth: the induction over the lines.
-use Rattle.std.proofs.Common.{◌≡◌, ℕ, ◌+◌, ◌<◌, ◌⊎◌, List, [], ◌∷◌, ◌++◌, length, Some, Ok, Option, sym, refl, ap, ◌∙◌, subst, inl, inr, ⊎_elim, arith, length-append}
+use Rattle.std.proofs.Common.{◌≡◌, ◌+◌, ◌<◌, List, [], ◌∷◌, ◌++◌, length, Some, Ok, Option, sym, refl, ap, ◌∙◌, subst, ⊎_elim, arith, length-append}
 use Rattle.std.specs.List.{slice_get}
 use Rattle.boxes.specs.Boxes.{Box, Centred}
 use Rattle.exact.specs.Fraction.{Frac}
@@ -10,7 +10,7 @@ use Rattle.line.specs.declared.line.Line.{Line}
 use Rattle.slope.specs.declared.record.Record.{Record}
 use Rattle.rule.proofs.Places.{nth_new, nth_old, nth_push}
 use Rattle.rule.proofs.Tells.{Agree, Valued, step}
-use Rattle.rule.specs.Exact.{InBox, Point, centred, earlier, exact, values_from}
+use Rattle.rule.specs.Exact.{InBox, Point, centred, earlier, values_from}
 use Rattle.rule.specs.Records.{RecordsTrue, records_from}
 use Rattle.rule.specs.Rule.{rule}
 

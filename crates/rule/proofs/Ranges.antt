@@ -4,7 +4,6 @@ use Rattle.std.proofs.lemmas.Result.{err_from_is_err_and}
 use Rattle.std.proofs.lemmas.Bool.{eq-eqb, ne_eqb}
 use Rattle.std.specs.List.{slice_get}
 use Rattle.boxes.specs.Boxes.{Box}
-use Rattle.exact.proofs.Ring.{x0}
 use Rattle.exact.specs.Optional.{◌>>=◌}
 use Rattle.fault.specs.Refusals.{after, found, refused}
 use Rattle.fault.specs.declared.fault.Cause.TheVariants.{NoChannel}

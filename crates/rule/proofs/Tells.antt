@@ -1,5 +1,5 @@
 -- A record that a rule makes of true records is true: one step of the induction over the lines.
-use Rattle.std.proofs.Common.{◌≡◌, ℕ, Bool, true, false, cond, eqb, List, length, ℤ, ◌≤ℤ◌, Some, None, Ok, Err, Option, Result, sym, refl, ap, ◌∙◌, subst}
+use Rattle.std.proofs.Common.{◌≡◌, ℕ, Bool, true, false, cond, eqb, List, length, ℤ, ◌≤ℤ◌, Some, None, Ok, Option, Result, refl, ap, ◌∙◌, subst}
 use Rattle.std.proofs.lemmas.Bool.{eqb-true}
 use Rattle.std.specs.List.{slice_get}
 use Rattle.boxes.specs.Boxes.{Box, Centred, is_count}
@@ -11,7 +11,7 @@ use Rattle.exact.proofs.Division.{divided as divides}
 use Rattle.exact.proofs.Fractions.{≈_refl}
 use Rattle.exact.proofs.Integers.{≤ℤ_times}
 use Rattle.exact.proofs.Order.{≤F_refl}
-use Rattle.exact.specs.Fraction.{Frac, Nonzero, ◌*F◌, ◌+F◌, ◌-F◌, ◌≈◌, ◌≤F◌, inv_F, max_F, min_F}
+use Rattle.exact.specs.Fraction.{Frac, ◌*F◌, ◌+F◌, ◌-F◌, ◌≈◌, ◌≤F◌, inv_F, max_F, min_F}
 use Rattle.exact.specs.Optional.{◌>>=◌}
 use Rattle.fault.proofs.Steps.{after_ok, err_ok, found_ok, none_some, ok_is, some_is}
 use Rattle.fault.specs.Refusals.{after, found, refused}
@@ -26,12 +26,11 @@ use Rattle.slope.proofs.Chains.{inner}
 use Rattle.slope.proofs.ChoicesTrue.{branch_kept, greater_chosen, lesser_chosen}
 use Rattle.slope.proofs.PartsTrue.{difference_kept, still_true, sum_kept, swept_true}
 use Rattle.slope.specs.Rules.{given}
-use Rattle.slope.specs.Curves.{Curved, lift, magnitude_shape, square_shape}
+use Rattle.slope.specs.Curves.{Curved, magnitude_shape, square_shape}
 use Rattle.slope.specs.Truth.{Kept, Told, True}
 use Rattle.slope.specs.declared.record.Record.{Record}
 use Rattle.span.proofs.Enclosing.{counts_in, quotient_away}
 use Rattle.span.proofs.Nested.{counts_nested}
-use Rattle.span.specs.Narrowest.{Within}
 use Rattle.span.specs.Spans.{of_counts}
 use Rattle.span.specs.declared.span.Span.{Span}
 use Rattle.truth.specs.Curve.{branch_F, magnitude_F, square_F}

@@ -5,7 +5,7 @@ use Rattle.std.proofs.lemmas.List.{take_more_set}
 use Rattle.std.proofs.lemmas.Result.{err_from_is_err_and}
 use Rattle.boxes.specs.Boxes.{Box}
 use Rattle.fault.specs.declared.fault.Fault.{Fault}
-use Rattle.kind.specs.Model.{Model, count}
+use Rattle.kind.specs.Model.{Model}
 use Rattle.line.specs.declared.line.Line.{Line}
 use Rattle.reader.specs.Reading.{Stands, end_at, line_at}
 use Rattle.rule.specs.Rule.{rule}

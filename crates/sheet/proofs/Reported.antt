@@ -9,7 +9,6 @@ use Rattle.fault.specs.declared.fault.Fault.{Fault}
 use Rattle.kind.specs.Model.{Model}
 use Rattle.report.specs.Reports.{reported}
 use Rattle.report.specs.declared.answer.Report.{Report}
-use Rattle.rule.specs.Lent.{lent}
 use Rattle.slope.specs.declared.record.Record.{Record}
 use Rattle.sheet.specs.Calls.{report}
 use Rattle.sheet.specs.Contents.{Contents}

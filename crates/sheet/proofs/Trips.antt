@@ -1,30 +1,30 @@
 -- Both round trips through an empty sheet.
-use Rattle.std.proofs.Common.{◌≡◌, ℕ, zero, suc, ◌+◌, ◌*◌, ◌<◌, ◌≤◌, Bool, true, false, cond, ◌&&◌, T, ltb, List, [], ◌∷◌, ◌++◌, length, drop, ℤ, pos, negsuc, neg_ℤ, nat_abs, Some, None, Ok, Err, Option, Result, sym, refl, ap, ◌∙◌, subst, ap₂, append_assoc, append-nil, arith, length-append, length-drop}
+use Rattle.std.proofs.Common.{◌≡◌, ℕ, zero, suc, ◌+◌, ◌<◌, ◌≤◌, Bool, true, false, cond, ◌&&◌, T, ltb, List, [], ◌∷◌, ◌++◌, length, drop, ℤ, pos, negsuc, neg_ℤ, nat_abs, Ok, Err, Result, sym, refl, ap, ◌∙◌, subst, ap₂, append_assoc, append-nil, arith, length-append}
 use borrow.Author.Differences.{ints}
 use lib.Seq.{drop-append_seam}
 use lib.Signed.{le_z, le_z_yes}
-use Rattle.std.proofs.lemmas.Bool.{le-ltb, ltb-true}
+use Rattle.std.proofs.lemmas.Bool.{ltb-true}
 use Rattle.std.specs.List.{slice_get}
 use Rattle.boxes.specs.Boxes.{Box, is_count}
-use Rattle.fault.proofs.Steps.{after_ok, err_ok, found_ok, none_some, ok_is}
+use Rattle.fault.proofs.Steps.{after_ok, err_ok, found_ok, ok_is}
 use Rattle.fault.specs.Refusals.{after, found, refused}
-use Rattle.fault.specs.declared.fault.Cause.TheVariants.{Left, NoChannel, Number, Operand}
+use Rattle.fault.specs.declared.fault.Cause.TheVariants.{NoChannel, Number, Operand}
 use Rattle.fault.specs.declared.fault.Fault.{Fault}
 use Rattle.kind.specs.Model.{Model}
-use Rattle.leb.specs.Numbers.{Bytes, encode}
-use Rattle.line.specs.Operations.{first, folded, second, third}
+use Rattle.leb.specs.Numbers.{encode}
+use Rattle.line.specs.Operations.{folded}
 use Rattle.line.specs.declared.line.Line.{Line}
 use Rattle.line.specs.declared.line.Line.TheVariants.{Branch, Channel, Constant, Difference, Greater, Lesser, Magnitude, Product, Quotient, Square, Sum}
-use Rattle.reader.specs.Reading.{count_at, end_at, formula_at, line_at, lines_from}
+use Rattle.reader.specs.Reading.{count_at, formula_at, line_at, lines_from}
 use Rattle.rule.proofs.Fits.{fit_judges}
 use Rattle.rule.proofs.Places.{nth_in}
 use Rattle.rule.specs.Fit.{Judged, earlier_lines, fit}
-use Rattle.rule.specs.Records.{records, records_from}
+use Rattle.rule.specs.Records.{records_from}
 use Rattle.rule.specs.Rule.{rule}
 use Rattle.slope.specs.declared.record.Record.{Record}
 use Rattle.writer.proofs.Back.{back}
 use Rattle.writer.proofs.There.{behind, end_there, count_there, there_line}
-use Rattle.writer.specs.Trips.{AllReadable, Readable}
+use Rattle.writer.specs.Trips.{Readable}
 use Rattle.writer.specs.Writing.{formula_bytes, line_bytes, lines_bytes}
 use Rattle.sheet.specs.Reading.{Outcome, ReadTrips, ends, goes_on, read_formula, read_lines}
 

@@ -1,5 +1,5 @@
 -- The operations of the sliding kind as ratios in 64 bits.
-use Rattle.std.proofs.Common.{◌≡◌, ℕ, zero, suc, ◌+◌, ◌-◌, ◌*◌, ◌%◌, ◌^◌, ◌<◌, ◌≤◌, [], ◌∷◌, ℤ, pos, negsuc, ◌+ℤ◌, ◌-ℤ◌, ◌*ℤ◌, neg_ℤ, nat_abs, ◌≤ℤ◌, Option, sym, refl, ap, ◌∙◌, subst, ap₂, mul_comm, mul-le-mul, mul-pos, arith, lit<, pow_pos, pow-add, shl_exact, w32, w64, SFits, to_z, of_z}
+use Rattle.std.proofs.Common.{◌≡◌, ℕ, zero, suc, ◌+◌, ◌-◌, ◌*◌, ◌%◌, ◌^◌, ◌<◌, ◌≤◌, [], ◌∷◌, ℤ, pos, negsuc, ◌-ℤ◌, ◌*ℤ◌, neg_ℤ, nat_abs, ◌≤ℤ◌, Option, sym, refl, ap, ◌∙◌, subst, ap₂, mul_comm, mul-le-mul, mul-pos, arith, lit<, pow_pos, pow-add, shl_exact, w32, w64, SFits, to_z, of_z}
 use borrow.Author.Differences.{ints}
 use lib.Signed.{le_z, mag, shr_z}
 use Rattle.std.proofs.lemmas.Int.{to_z-of_z}
@@ -18,7 +18,7 @@ use Rattle.sliding.proofs.Rounds.{negate_shifted}
 use Rattle.sliding.specs.Rules.{sliding_lawful, sliding_rules}
 use Rattle.sliding.proofs.Scales.{plain_shr}
 use Rattle.sliding.specs.Slides.{shifted_add, shifted_bound}
-use Rattle.sliding.specs.Cut.{Held, Stands, shifted}
+use Rattle.sliding.specs.Cut.{Stands, shifted}
 use Rattle.sliding.specs.Form.{Normal}
 use Rattle.sliding.specs.Grid.{sliding_grid, sliding_model}
 use Rattle.sliding.specs.declared.mark.Sliding.{Sliding}

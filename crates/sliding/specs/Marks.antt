@@ -1,5 +1,5 @@
 -- Which numbers are the marks of the sliding kind: exactly m × 2^e, e from −24 to 8, each in one stored form.
-use Rattle.std.specs.Prelude.{◌≡◌, ℕ, ◌≤◌, ℤ, unsigned_abs}
+use Rattle.std.specs.Prelude.{ℕ, ◌≤◌, ℤ, unsigned_abs}
 use Rattle.std.proofs.Common.{lit<}
 use Rattle.exact.specs.Fraction.{ratio, ◌≈◌}
 use Rattle.sliding.specs.Cut.{shifted}

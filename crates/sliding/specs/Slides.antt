@@ -1,7 +1,7 @@
 -- Where a number is cut: the greatest sliding mark not above it. A cut P says of each whole number whether it is not above.
 use Rattle.std.specs.Prelude.{◌≡◌, ℕ, zero, suc, ◌+◌, ◌-◌, ◌*◌, ◌^◌, ◌<◌, ◌≤◌, ◌⊎◌, [], ◌∷◌, ℤ, pos, negsuc, ◌+ℤ◌, ◌*ℤ◌, neg_ℤ, ◌≤ℤ◌, unsigned_abs, refl}
 use Rattle.std.proofs.Common.{inl, inr, ◌∙◌, ap, subst, sym, pow-suc, arith, pow-add, pow_mono}
-use borrow.Author.Differences.{down, ints}
+use borrow.Author.Differences.{ints}
 use Rattle.std.proofs.lemmas.Int.{by_lt_z}
 use Rattle.std.specs.Int.{int_div_euclid}
 use Rattle.exact.proofs.Floors.{floor_low, floor_next}

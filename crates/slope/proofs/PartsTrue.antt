@@ -1,5 +1,5 @@
 -- Channels, constants, sums and differences tell the truth.
-use Rattle.std.proofs.Common.{◌≡◌, ℕ, T, Some, Option}
+use Rattle.std.proofs.Common.{◌≡◌, ℕ, Some, Option}
 use Rattle.exact.proofs.Fractions.{≈_refl}
 use Rattle.exact.proofs.Ring.{x0}
 use Rattle.exact.specs.Fraction.{Frac, ◌+F◌, ◌-F◌, ◌≈◌}

@@ -3,7 +3,6 @@ use Rattle.std.proofs.Common.{T, ◌⊎◌, Some, None, Option, inl, inr}
 use Rattle.exact.proofs.Fractions.{≈_sym}
 use Rattle.exact.proofs.Order.{by_le, le_of_lt, ≤F_of_≈, ≤F_refl, ≤F_trans}
 use Rattle.exact.proofs.Signs.{0F}
-use Rattle.exact.specs.Floor.{ceiling, floor}
 use Rattle.exact.specs.Fraction.{Frac, ◌≤F◌}
 use Rattle.kind.proofs.Orders.{mark_inside}
 use Rattle.kind.specs.Model.{Down, Inside, Model, Rules, Up}

@@ -1,7 +1,6 @@
 -- What each operation on spans is: the narrowest span over all its exact results.
 use Rattle.std.specs.Prelude.{◌≡◌, ◌⊎◌, ℤ, pos, None, Option}
 use Rattle.exact.specs.Fraction.{Frac, whole, ◌+F◌, ◌-F◌, ◌*F◌, neg_F, ◌≈◌, ◌≤F◌, max_F}
-use Rattle.exact.specs.Interval.{In}
 use Rattle.kind.specs.Model.{Model, count}
 use Rattle.span.specs.declared.span.Span.{Span}
 use Rattle.span.specs.Narrowest.{Held, Ordered, Fitting, Narrowest}

@@ -1,5 +1,5 @@
 -- The worked examples of docs/EXAMPLES.md, against the definitions. All ends are in counts; a is channel 0, which is swept.
-use Rattle.std.specs.Prelude.{◌≡◌, ℕ, List, [], ◌∷◌, ℤ, pos, neg_ℤ, Some, None, Ok, Err, Option, Result}
+use Rattle.std.specs.Prelude.{◌≡◌, ℕ, List, [], ◌∷◌, ℤ, pos, neg_ℤ, Some, None, Ok, Err, Result}
 use Rattle.std.specs.List.{slice_get}
 use Rattle.boxes.specs.Boxes.{Box}
 use Rattle.exact.specs.Fraction.{◌≈◌}
@@ -10,7 +10,7 @@ use Rattle.kind.specs.Model.{Model, count}
 use Rattle.line.specs.declared.line.Line.{Line}
 use Rattle.line.specs.declared.line.Line.TheVariants.{Branch, Channel, Constant, Difference, Magnitude, Product, Quotient}
 use Rattle.reader.specs.Reading.{count_at, formula_at}
-use Rattle.report.specs.Reports.{high, low, range, reported}
+use Rattle.report.specs.Reports.{range, reported}
 use Rattle.rule.specs.Records.{records}
 use Rattle.sliding.specs.Grid.{sliding_model}
 use Rattle.slope.specs.declared.record.Record.{Record}

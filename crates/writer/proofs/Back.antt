@@ -1,5 +1,5 @@
 -- Bytes that were read as lines are what those lines write.
-use Rattle.std.proofs.Common.{◌≡◌, ℕ, zero, suc, ◌+◌, ◌*◌, ◌/◌, ◌%◌, ◌<◌, ◌≤◌, Bool, true, false, cond, eqb, ltb, List, [], ◌∷◌, ◌++◌, length, take, drop, Ok, Result, sym, refl, ap, ◌∙◌, subst, ap₂, append_assoc, append-nil, arith, take-append-drop, drop-drop}
+use Rattle.std.proofs.Common.{◌≡◌, ℕ, zero, suc, ◌/◌, ◌%◌, ◌≤◌, Bool, true, false, cond, eqb, ltb, List, [], ◌∷◌, ◌++◌, length, drop, Ok, Result, sym, refl, ap, ◌∙◌, subst, ap₂, append_assoc, append-nil, arith, take-append-drop, drop-drop}
 use Rattle.std.proofs.lemmas.List.{drop_all}
 use Rattle.std.proofs.lemmas.Bool.{eqb-false, eqb-true, ltb-false}
 use Rattle.fault.proofs.Steps.{after_ok, err_ok, ok_is}
@@ -12,7 +12,7 @@ use Rattle.leb.specs.declared.place.Place.{Place}
 use Rattle.line.specs.Operations.{arity, folded, line_of, unfolded}
 use Rattle.line.specs.declared.line.Line.{Line}
 use Rattle.reader.proofs.Chains.{placed_ok}
-use Rattle.reader.specs.Reading.{count_at, end_at, formula_at, line_at, lines_from, number_at, operand_at, placed}
+use Rattle.reader.specs.Reading.{count_at, formula_at, line_at, lines_from, number_at, operand_at, placed}
 use Rattle.writer.specs.Writing.{formula_bytes, line_bytes, lines_bytes, operand_bytes}
 
 -- ---- a line's numbers are those it was made of

@@ -3,7 +3,7 @@ use Rattle.std.proofs.Common.{◌≡◌, ℕ, zero, suc, ◌+◌, ◌-◌, ◌*�
 use Rattle.std.proofs.lemmas.Nat.{div_below}
 use Rattle.std.proofs.lemmas.Bool.{le-ltb}
 use Rattle.leb.proofs.Trip.{one_group}
-use Rattle.leb.specs.Numbers.{ends, groups}
+use Rattle.leb.specs.Numbers.{groups}
 use Rattle.writer.proofs.Overlay.{written_cons, written_one}
 use Rattle.writer.specs.Writing.{written}
 

@@ -1,5 +1,4 @@
 use Rattle.std.proofs.Common.{◌≡◌, ◌+◌, ◌-◌, Ok, sym, ap, ◌∙◌, arith}
-use borrow.Author.Differences.{down}
 use Rattle.std.proofs.lemmas.List.{drop_all}
 use Rattle.leb.proofs.Reading.{early, front, next, taken, turned_down}
 use Rattle.leb.proofs.numbers.number_steps.Goals as goal

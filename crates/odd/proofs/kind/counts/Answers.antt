@@ -1,6 +1,5 @@
-use Rattle.std.proofs.Common.{◌≡◌, pos, ◌*ℤ◌, ◌∙◌, arith}
+use Rattle.std.proofs.Common.{arith}
 use borrow.Author.Differences.{ints}
-use Rattle.odd.specs.Grid.{whole}
 use Rattle.odd.specs.Signs.{ceiling_is, floor_is, small}
 use Rattle.odd.proofs.kind.counts.Goals as goal
 

@@ -1,4 +1,3 @@
-use Rattle.std.proofs.Common.{◌≡◌, Some, sym, ap, ◌∙◌, subst}
 use Rattle.odd.specs.Signs.{quotient_minus_above, quotient_minus_below, quotient_plus_above, quotient_plus_below}
 use Rattle.odd.proofs.kind.quotient.Goals as goal
 

@@ -1,6 +1,6 @@
-use Rattle.std.proofs.Common.{◌≡◌, ◌+ℤ◌, ◌∙◌, arith}
+use Rattle.std.proofs.Common.{◌+ℤ◌, ◌∙◌, arith}
 use borrow.Author.Differences.{ints}
-use Rattle.odd.specs.Grid.{sign_of, whole}
+use Rattle.odd.specs.Grid.{whole}
 use Rattle.odd.specs.Signs.{at_sign, small, sum_is_above, sum_is_below}
 use Rattle.odd.proofs.kind.sum.Goals as goal
 

@@ -1,4 +1,4 @@
-use Rattle.std.proofs.Common.{◌≡◌, [], ◌∷◌, sym, refl, ap, ◌∙◌, arith, lit<, w64, to_z, of_z}
+use Rattle.std.proofs.Common.{arith, w64}
 use Rattle.std.proofs.lemmas.Int.{to_z-of_z}
 use Rattle.sliding.proofs.Ops.{stands_whole}
 use Rattle.sliding.proofs.rounding.whole.Goals as goal

@@ -1,4 +1,4 @@
-use Rattle.std.proofs.Common.{Some, sym, ap, ◌∙◌, arith}
+use Rattle.std.proofs.Common.{Some, ap, ◌∙◌, arith}
 use borrow.Author.Differences.{ints}
 use Rattle.odd.specs.Signs.{at_above}
 use Rattle.odd.proofs.kind.SignNumberKind.count_above.Goals as goal

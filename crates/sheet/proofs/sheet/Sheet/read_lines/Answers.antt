@@ -1,7 +1,7 @@
-use Rattle.std.proofs.Common.{take, sym, ap, ◌∙◌, subst, arith}
+use Rattle.std.proofs.Common.{take, ap, ◌∙◌, arith}
 use Rattle.boxes.specs.Stored.{box_of}
 use Rattle.rule.specs.Rule.{rule}
-use Rattle.sheet.proofs.ReadLines.{Going, bad_line, bad_record, going_end, going_on, stands_err, stands_ok}
+use Rattle.sheet.proofs.ReadLines.{bad_line, bad_record, going_end, going_on, stands_err, stands_ok}
 use Rattle.sheet.proofs.sheet.Sheet.read_lines.Goals as goal
 
 pub returns-in_err-line : goal.returns-in_err-line

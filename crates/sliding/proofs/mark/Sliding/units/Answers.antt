@@ -1,4 +1,3 @@
-use Rattle.std.proofs.Common.{arith}
 use Rattle.sliding.proofs.Ops.{plain_scaled, size_bound}
 use Rattle.sliding.proofs.mark.Sliding.units.Goals as goal
 
