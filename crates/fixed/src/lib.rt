@@ -1,7 +1,7 @@
 // The fixed kind: marks on a grid of 1/65,536.
 #![tactic(auto)]
 
-mod kind;
+mod arithmetic;
 mod mark;
 
 pub use mark::Fixed;

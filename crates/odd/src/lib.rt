@@ -2,7 +2,7 @@
 // leans on nothing more.
 #![tactic(auto)]
 
-mod kind;
+mod arithmetic;
 mod sign;
 
 pub use sign::Sign;

@@ -1,7 +1,7 @@
 // The sliding kind: marks with a mantissa of 24 bits and a scale.
 #![tactic(auto)]
 
-mod kind;
+mod arithmetic;
 mod mark;
 mod rounding;
 
