@@ -15,18 +15,18 @@ pub returns-then-n-d-2 : goal.returns-then-n-d-2
 returns-then-n-d-2 c h = ratio_none_under fixed_grid fixed_lawful c.args.n c.args.d h (omega (arith, ints))
 
 -- the floor that the code computes is a count
-floor-at : (n z r : ℤ) (d : ℕ) → 0 < d → r ≡ int_div_euclid z (pos d) → z ≡ n → (neg_ℤ (pos 1073741823) *ℤ pos d) ≤ℤ n → n ≤ℤ (pos 1073741823 *ℤ pos d) → Count r × (r ≡ int_div_euclid n (pos d))
-floor-at n z r d h e f p q = let k = e ∙ ap (λ (y : ℤ). int_div_euclid y (pos d)) f in (rw k (floor_count n d h p q), k)
+floor_at : (n z r : ℤ) (d : ℕ) → 0 < d → r ≡ int_div_euclid z (pos d) → z ≡ n → (neg_ℤ (pos 1073741823) *ℤ pos d) ≤ℤ n → n ≤ℤ (pos 1073741823 *ℤ pos d) → Count r × (r ≡ int_div_euclid n (pos d))
+floor_at n z r d h e f p q = let k = e ∙ ap (λ (y : ℤ). int_div_euclid y (pos d)) f in (rw k (floor_count n d h p q), k)
 
 pub overflow_cast-result : goal.overflow_cast-result
-overflow_cast-result c = let f = (floor-at c.args.n _ _ c.args.d c.requires c.floor_of.ensures (to_z-of_z w64 _ c.ranges.n) (omega (arith, ints)) (omega (arith, ints))).0 in omega (arith, ints)
+overflow_cast-result c = let f = (floor_at c.args.n _ _ c.args.d c.requires c.floor_of.ensures (to_z-of_z w64 _ c.ranges.n) (omega (arith, ints)) (omega (arith, ints))).0 in omega (arith, ints)
 
 pub invariant_of-result : goal.invariant_of-result
 invariant_of-result c =
-    let f = (floor-at c.args.n _ _ c.args.d c.requires c.floor_of.ensures (to_z-of_z w64 _ c.ranges.n) (omega (arith, ints)) (omega (arith, ints))).0 in
+    let f = (floor_at c.args.n _ _ c.args.d c.requires c.floor_of.ensures (to_z-of_z w64 _ c.ranges.n) (omega (arith, ints)) (omega (arith, ints))).0 in
     record { fits = (omega (arith, ints), omega (arith, ints)) }
 
 pub returns : goal.returns
 returns c h =
-    let f = floor-at c.args.n _ _ c.args.d c.requires c.floor_of.ensures (to_z-of_z w64 _ c.ranges.n) (omega (arith, ints)) (omega (arith, ints)) in
+    let f = floor_at c.args.n _ _ c.args.d c.requires c.floor_of.ensures (to_z-of_z w64 _ c.ranges.n) (omega (arith, ints)) (omega (arith, ints)) in
     fixed_some c.args.n c.args.d h _ (let k = f.0 in let e = f.1 in omega (arith, ints)) (omega (arith, ints))

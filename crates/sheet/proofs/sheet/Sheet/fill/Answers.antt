@@ -15,15 +15,15 @@ returns-in_err-count g c =
 pub read_lines-requires : goal.read_lines-requires
 read_lines-requires g c = record { empty = c.requires.empty; room = c.requires.room; most = few_lines c.args.bytes.now c.in_ok-count.ensures }
 
-same-contents : (s t : Sheet) → s.over ≡ t.over → s.held ≡ 0 → t.held ≡ 0 → contents s ≡ contents t
-same-contents s t e h k = (λ i. record { over = box_of (e i); lines = (ap (λ n. take n s.lines) h ∙ sym (ap (λ n. take n t.lines) k)) i })
+same_contents : (s t : Sheet) → s.over ≡ t.over → s.held ≡ 0 → t.held ≡ 0 → contents s ≡ contents t
+same_contents s t e h k = (λ i. record { over = box_of (e i); lines = (ap (λ n. take n s.lines) h ∙ sym (ap (λ n. take n t.lines) k)) i })
 
 pub returns-in_err-read_lines : goal.returns-in_err-read_lines
 returns-in_err-read_lines g c =
     let q = with_count g.K.NumberKind.model (box_of c.args.self.now.over) c.args.bytes.now c.in_ok-count.ensures in
     let p = unfilled (read_formula g.K.NumberKind.model (box_of c.args.self.now.over) c.args.bytes.now) (contents c.args.self.now) _ c.from_residual-in_err-read_lines.ensures.1
     (ap (λ o. o.answer) q ∙ sym c.read_lines.ensures.answer ∙ c.in_err-read_lines.was) in
-    record { answer = p.0; sheet = same-contents c.read_lines.new.self c.args.self.now c.read_lines.ensures.over c.read_lines.ensures.none c.requires.empty ∙ p.1; records = c.read_lines.ensures.records ∙ sym (ap (λ o. overlaid o.records c.args.working.now) q) }
+    record { answer = p.0; sheet = same_contents c.read_lines.new.self c.args.self.now c.read_lines.ensures.over c.read_lines.ensures.none c.requires.empty ∙ p.1; records = c.read_lines.ensures.records ∙ sym (ap (λ o. overlaid o.records c.args.working.now) q) }
 
 pub invariant_of-self : goal.invariant_of-self
 invariant_of-self g c = record { whole = c.read_lines.new.self.whole; few = few_lines c.args.bytes.now c.in_ok-count.ensures }
