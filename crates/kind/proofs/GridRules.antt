@@ -1,6 +1,7 @@
 -- A lawful grid keeps the rules of a kind: rounding over any unit and any denominator, from the one theorem of the floor.
 use Rattle.std.proofs.Common.{◌≡◌, ℕ, ◌*◌, ◌<◌, Bool, true, false, cond, ◌&&◌, T, [], ◌∷◌, ℤ, pos, ◌*ℤ◌, neg_ℤ, ◌≤ℤ◌, ◌<ℤ◌, Some, None, Option, sym, refl, ap, ◌∙◌, subst, arith}
 use borrow.Author.Differences.{ints}
+use Rattle.exact.specs.Optional.{◌>>=◌}
 use Rattle.exact.specs.Fraction.{Frac, whole, neg_F, ◌≈◌, ◌≤F◌, le_F}
 use Rattle.exact.specs.Floor.{Floor, floor}
 use Rattle.exact.proofs.Ring.{num, x0, x1, x2, ◌⊗◌}
@@ -74,7 +75,7 @@ module _ {K : Type 0} (g : Grid K) (l : Lawful g) where
   inside_neg : {x : Frac} → Inside m x → Inside m (neg_F x)
   inside_neg i = (neg_mono i.1, neg_left i.0)
 
-  mirror : (x : Frac) (r : Option K) → Down m (neg_F x) r → Up m x (mirrored g r)
+  mirror : (x : Frac) (r : Option K) → Down m (neg_F x) r → Up m x (r >>= (λ a. Some (g.minus a)))
   mirror x None p = λ i. p (inside_neg i)
   mirror x (Some d) p = (
     neg_inside p.0,
@@ -139,3 +140,9 @@ module _ {K : Type 0} (g : Grid K) (l : Lawful g) where
   pub above_of : (n n' : ℤ) (d : ℕ) (h : 0 < d) (r : Option K) → n' ≡ neg_ℤ n → r ≡ grid_below g (units_over g n' d h) → mirrored g r ≡ grid_above g (units_over g n d h)
   unfolding grid_above units_over neg_F
   above_of n n' d h r e p = ap (mirrored g) (p ∙ ap (λ (z : ℤ). grid_below g (units_over g z d h)) e)
+
+  pub above_none : (n n' : ℤ) (d : ℕ) (h : 0 < d) → n' ≡ neg_ℤ n → None ≡ grid_below g (units_over g n' d h) → None ≡ grid_above g (units_over g n d h)
+  above_none n n' d h e p = above_of n n' d h None e p
+
+  pub above_some : (n n' : ℤ) (d : ℕ) (h : 0 < d) (k k' : K) → n' ≡ neg_ℤ n → g.size k' ≡ neg_ℤ (g.size k) → Some k ≡ grid_below g (units_over g n' d h) → Some k' ≡ grid_above g (units_over g n d h)
+  above_some n n' d h k k' e f p = ap Some (l.distinct k' (g.minus k) (f ∙ sym (l.minus_is k))) ∙ above_of n n' d h (Some k) e p

@@ -1,5 +1,5 @@
 -- The operations of the sliding kind as ratios in 64 bits.
-use Rattle.std.proofs.Common.{◌≡◌, ℕ, zero, suc, ◌+◌, ◌-◌, ◌*◌, ◌%◌, ◌^◌, ◌<◌, ◌≤◌, [], ◌∷◌, ℤ, pos, negsuc, ◌-ℤ◌, ◌*ℤ◌, neg_ℤ, nat_abs, ◌≤ℤ◌, Option, sym, refl, ap, ◌∙◌, subst, ap₂, mul_comm, mul-le-mul, mul-pos, arith, lit<, pow_pos, pow-add, shl_exact, w32, w64, SFits, to_z, of_z}
+use Rattle.std.proofs.Common.{◌≡◌, ℕ, zero, suc, ◌+◌, ◌-◌, ◌*◌, ◌%◌, ◌^◌, ◌<◌, ◌≤◌, [], ◌∷◌, ℤ, pos, negsuc, ◌+ℤ◌, ◌-ℤ◌, ◌*ℤ◌, neg_ℤ, nat_abs, ◌≤ℤ◌, Option, sym, refl, ap, ◌∙◌, subst, ap₂, mul_comm, mul-le-mul, mul-pos, arith, lit<, pow_pos, pow-add, shl_exact, w32, w64, SFits, to_z, of_z}
 use borrow.Author.Differences.{ints}
 use lib.Signed.{le_z, mag, shr_z}
 use Rattle.std.proofs.lemmas.Int.{to_z-of_z}
@@ -18,7 +18,7 @@ use Rattle.sliding.proofs.Rounds.{negate_shifted}
 use Rattle.sliding.specs.Rules.{sliding_lawful, sliding_rules}
 use Rattle.sliding.proofs.Scales.{plain_shr}
 use Rattle.sliding.specs.Slides.{shifted_add, shifted_bound}
-use Rattle.sliding.specs.Cut.{Stands, shifted}
+use Rattle.sliding.specs.Cut.{Held, Stands, shifted}
 use Rattle.sliding.specs.Form.{Normal}
 use Rattle.sliding.specs.Grid.{sliding_grid, sliding_model}
 use Rattle.sliding.specs.declared.mark.Sliding.{Sliding}
@@ -165,10 +165,22 @@ size_bound m s p = let b = shifted_bound m s 32 16777215 p.0 p.1 in omega arith
 pub plain_scaled : (r m : ℤ) (s : ℕ) → nat_abs m ≤ 16777215 → mag r < 2 ^ 63 → r ≡ shifted (to_z w32 (of_z w32 m)) s → to_z w64 (of_z w64 r) ≡ shifted m s
 plain_scaled r m s p f e = to_z-of_z w64 r (record { sfits = f }) ∙ e ∙ ap (λ (z : ℤ). shifted z s) (plain32 m (omega arith))
 
+pub sum_fits : (x y v w : ℤ) → x ≡ v → y ≡ w → nat_abs v ≤ 2 ^ 56 → nat_abs w ≤ 2 ^ 56 → SFits w64 (x +ℤ y)
+sum_fits x y v w e f p q = rw (e, f) (omega (arith, ints))
+
+pub sum_plain : (x y v w : ℤ) → x ≡ v → y ≡ w → nat_abs v ≤ 2 ^ 56 → nat_abs w ≤ 2 ^ 56 → to_z w64 (of_z w64 (x +ℤ y)) ≡ v +ℤ w
+sum_plain x y v w e f p q = to_z-of_z w64 (x +ℤ y) (sum_fits x y v w e f p q) ∙ ap₂ ◌+ℤ◌ e f
+
+pub sum_held : (x y v w : ℤ) → x ≡ v → y ≡ w → nat_abs v ≤ 2 ^ 56 → nat_abs w ≤ 2 ^ 56 → Held (to_z w64 (of_z w64 (x +ℤ y))) 1 0
+sum_held x y v w e f p q = record { positive = lit< tt; bound = rw (sum_plain x y v w e f p q) (omega (arith, ints)); wide = λ z. omega arith; short = omega arith }
+
+pub zero_shift : (n k : ℤ) → n ≡ k → shifted n 0 *ℤ pos 1 ≡ k *ℤ pos 1
+zero_shift n k e = ap (λ (z : ℤ). shifted z 0 *ℤ pos 1) e ∙ ring (k ∷ []) (x0 ⊗ num (pos 1) ⊗ num (pos 1)) (x0 ⊗ num (pos 1)) refl
+
 pub stands_whole : (n k : ℤ) → k ≡ n → nat_abs n ≤ 2 ^ 62 → Stands n 1 k 1 0
 stands_whole n k e b = record {
   held = record { positive = lit< tt; bound = subst (λ (z : ℤ). nat_abs z ≤ 2 ^ 62) (sym e) b; wide = λ z. omega arith; short = omega arith };
-  cross = ap (λ (z : ℤ). shifted z 0 *ℤ pos 1) e ∙ ring (n ∷ []) (x0 ⊗ num (pos 1) ⊗ num (pos 1)) (x0 ⊗ num (pos 1)) refl;
+  cross = zero_shift k n e;
 }
 
 -- n units, at the number that is meant
