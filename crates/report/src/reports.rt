@@ -1,5 +1,6 @@
 // Reports of records.
 ghost use Rattle.std.specs.Prelude.{◌≡◌, ◌^◌, pos, neg_ℤ, ◌≤ℤ◌};
+ghost use Rattle.std.specs.Int.{int_div_euclid};
 ghost use Rattle.boxes.specs.Stored.{box_of};
 ghost use Rattle.span.specs.Narrowest.{Held};
 ghost use Rattle.report.specs.Near.{Near, Covers};
@@ -29,6 +30,13 @@ pub fn range_of<K: NumberKind>(b: &ChannelBox, r: &Record<K>) -> Span<K>
     range(b, r)
 }
 
+// Half of a number, rounded down, also where it is negative.
+fn half(n: i64) -> i64
+    ensures { result ≡ int_div_euclid n (pos 2) }
+{
+    n.div_euclid(2)
+}
+
 fn between(low: i64, high: i64) -> Report
     requires low_from { neg_ℤ (pos (2 ^ 56)) ≤ℤ low }
     requires low_to { low ≤ℤ pos (2 ^ 56) }
@@ -36,7 +44,7 @@ fn between(low: i64, high: i64) -> Report
     requires high_to { high ≤ℤ pos (2 ^ 56) }
     ensures { result ≡ reports.report_of low high }
 {
-    let middle = (low + high).div_euclid(2);
+    let middle = half(low + high);
     Report {
         middle,
         margin: high - middle,

@@ -1,5 +1,6 @@
 // Writing lines and formulas.
 ghost use Rattle.std.specs.Prelude.{◌≡◌, ◌+◌, ◌*◌, ◌≤◌, length};
+ghost use Rattle.line.specs.Operations as lines;
 ghost use Rattle.writer.specs.Trips.{FormulaTrips};
 ghost use Rattle.writer.specs.Writing.{operand_bytes, line_bytes, lines_bytes, formula_bytes, written, needed, filled};
 
@@ -34,6 +35,15 @@ fn line_width(line: Line) -> usize
         + width_if(operands > 2, line.third())
 }
 
+// The numbers of a line, its operation apart.
+fn operands_of(line: Line) -> (u64, u64, u64)
+    ensures first { result.0 ≡ lines.first line }
+    ensures second { result.1 ≡ lines.second line }
+    ensures third { result.2 ≡ lines.third line }
+{
+    (line.first(), line.second(), line.third())
+}
+
 fn put_line(out: &mut [u8], at: usize, line: Line) -> usize
     requires { at + length (line_bytes line) ≤ length out.old }
     ensures bytes { out.new ≡ written out.old at (line_bytes line) }
@@ -42,9 +52,10 @@ fn put_line(out: &mut [u8], at: usize, line: Line) -> usize
     let operation = line.operation();
     let operands = arity(operation);
     let at = put(out, at, u64::from(operation));
-    let at = put(out, at, line.first());
-    let at = put_if(operands > 1, out, at, line.second());
-    put_if(operands > 2, out, at, line.third())
+    let (a, b, c) = operands_of(line);
+    let at = put(out, at, a);
+    let at = put_if(operands > 1, out, at, b);
+    put_if(operands > 2, out, at, c)
 }
 
 // How many bytes a formula takes.

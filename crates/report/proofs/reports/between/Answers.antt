@@ -19,4 +19,4 @@ small l h d a b p q e =
     (λ i. record { middle = (v ∙ e') i; margin = (w ∙ ap (λ z. h -ℤ z) e') i })
 
 pub returns : goal.returns
-returns c = small c.args.low c.args.high _ c.requires.low_from c.requires.low_to c.requires.high_from c.requires.high_to c.div_euclid-middle.ensures
+returns c = small c.args.low c.args.high _ c.requires.low_from c.requires.low_to c.requires.high_from c.requires.high_to c.half-middle.ensures
