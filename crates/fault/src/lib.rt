@@ -3,5 +3,6 @@
 
 mod fault;
 mod methods;
+mod texts;
 
 pub use fault::{Cause, Fault};

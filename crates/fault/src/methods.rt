@@ -1,9 +1,17 @@
+// What a cause gives: its number, and the refusal at a place.
 ghost use Rattle.std.specs.Prelude.{◌≡◌};
 ghost use Rattle.fault.specs.Causes.{number};
 
-use crate::fault::Cause;
+use crate::fault::{Cause, Fault};
 
 impl Cause {
+    // The refusal for this cause at a place.
+    pub fn at(self, place: usize) -> Fault
+        ensures { result ≡ record { cause = self; place = place } }
+    {
+        Fault { cause: self, place }
+    }
+
     pub fn number(self) -> u32
         ensures { result ≡ number self }
     {
