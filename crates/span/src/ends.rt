@@ -3,7 +3,7 @@ ghost use Rattle.std.specs.Prelude.{◌≡◌};
 ghost use Rattle.span.specs.Spans as spans;
 ghost use Rattle.span.specs.Laws.{HullLaw, MeetLaw, CountsLaw};
 
-use crate::span::Span;
+use crate::span::{Span, ends};
 use kind::NumberKind;
 
 pub fn lesser_mark<K: NumberKind>(a: K, b: K) -> K
@@ -51,13 +51,7 @@ fn meet_ends<K: NumberKind>(s: Span<K>, t: Span<K>) -> Span<K>
 fn count_ends<K: NumberKind>(lower: i32, upper: i32) -> Option<Span<K>>
     ensures { result ≡ spans.of_counts K.NumberKind.model lower upper }
 {
-    let Some(lower) = K::count_below(lower) else {
-        return None;
-    };
-    let Some(upper) = K::count_above(upper) else {
-        return None;
-    };
-    Some(Span { lower, upper })
+    ends(K::count_below(lower), K::count_above(upper))
 }
 
 impl<K: NumberKind> Span<K> {

@@ -4,20 +4,14 @@ ghost use Rattle.span.specs.Spans as spans;
 ghost use Rattle.span.specs.Laws.{ProductLaw};
 
 use crate::ends::{from_zero, hull_ends, to_zero};
-use crate::span::Span;
+use crate::span::{Span, ends};
 use kind::NumberKind;
 
 // a × b rounded down, to c × d rounded up
 pub fn corners<K: NumberKind>(a: K, b: K, c: K, d: K) -> Option<Span<K>>
     ensures { result ≡ spans.corners K.NumberKind.model a b c d }
 {
-    let Some(lower) = a.product_below(b) else {
-        return None;
-    };
-    let Some(upper) = c.product_above(d) else {
-        return None;
-    };
-    Some(Span { lower, upper })
+    ends(a.product_below(b), c.product_above(d))
 }
 
 // s from 0 up
@@ -48,12 +42,8 @@ fn product_across<K: NumberKind>(s: Span<K>, t: Span<K>) -> Option<Span<K>>
     if to_zero(t.upper) {
         return corners(s.upper, t.lower, s.lower, t.lower);
     }
-    let Some(p) = corners(s.lower, t.upper, s.upper, t.upper) else {
-        return None;
-    };
-    let Some(q) = corners(s.upper, t.lower, s.lower, t.lower) else {
-        return None;
-    };
+    let p = corners(s.lower, t.upper, s.upper, t.upper)?;
+    let q = corners(s.upper, t.lower, s.lower, t.lower)?;
     Some(hull_ends(p, q))
 }
 

@@ -4,20 +4,14 @@ ghost use Rattle.span.specs.Spans as spans;
 ghost use Rattle.span.specs.Laws.{QuotientLaw};
 
 use crate::ends::{from_zero, to_zero};
-use crate::span::Span;
+use crate::span::{Span, ends};
 use kind::NumberKind;
 
 // a / b rounded down, to c / d rounded up
 fn ratios<K: NumberKind>(a: K, b: K, c: K, d: K) -> Option<Span<K>>
     ensures { result ≡ spans.ratios K.NumberKind.model a b c d }
 {
-    let Some(lower) = a.quotient_below(b) else {
-        return None;
-    };
-    let Some(upper) = c.quotient_above(d) else {
-        return None;
-    };
-    Some(Span { lower, upper })
+    ends(a.quotient_below(b), c.quotient_above(d))
 }
 
 // divisors above 0
@@ -41,13 +35,13 @@ fn quotient_down<K: NumberKind>(s: Span<K>, t: Span<K>) -> Option<Span<K>>
 fn quotient_ends<K: NumberKind>(s: Span<K>, t: Span<K>) -> Option<Span<K>>
     ensures { result ≡ spans.quotient K.NumberKind.model s t }
 {
-    if to_zero(t.lower) {
-        if from_zero(t.upper) {
-            return None;
-        }
-        return quotient_down(s, t);
+    if !to_zero(t.lower) {
+        quotient_up(s, t)
+    } else if from_zero(t.upper) {
+        None
+    } else {
+        quotient_down(s, t)
     }
-    quotient_up(s, t)
 }
 
 impl<K: NumberKind> Span<K> {

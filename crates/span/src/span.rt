@@ -1,9 +1,22 @@
 // A span of a kind's marks.
+ghost use Rattle.std.specs.Prelude.{◌≡◌};
+ghost use Rattle.span.specs.Spans as spans;
+
 use kind::NumberKind;
 
 // All numbers from a lower to an upper mark. Working lines may hold anything, so nothing here rests on their order.
-#[derive(Clone, Copy)]
+#[derive(Clone, Copy, PartialEq, Eq, Debug)]
 pub struct Span<K: NumberKind> {
     pub lower: K,
     pub upper: K,
+}
+
+// The span from two ends that may be absent, if both are there.
+pub fn ends<K: NumberKind>(lower: Option<K>, upper: Option<K>) -> Option<Span<K>>
+    ensures { result ≡ spans.ends K.NumberKind.model lower upper }
+{
+    Some(Span {
+        lower: lower?,
+        upper: upper?,
+    })
 }

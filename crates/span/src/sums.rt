@@ -3,19 +3,13 @@ ghost use Rattle.std.specs.Prelude.{◌≡◌};
 ghost use Rattle.span.specs.Spans as spans;
 ghost use Rattle.span.specs.Laws.{SumLaw, DifferenceLaw};
 
-use crate::span::Span;
+use crate::span::{Span, ends};
 use kind::NumberKind;
 
 fn sum_ends<K: NumberKind>(s: Span<K>, t: Span<K>) -> Option<Span<K>>
     ensures { result ≡ spans.sum K.NumberKind.model s t }
 {
-    let Some(lower) = s.lower.sum_below(t.lower) else {
-        return None;
-    };
-    let Some(upper) = s.upper.sum_above(t.upper) else {
-        return None;
-    };
-    Some(Span { lower, upper })
+    ends(s.lower.sum_below(t.lower), s.upper.sum_above(t.upper))
 }
 
 fn difference_ends<K: NumberKind>(s: Span<K>, t: Span<K>) -> Option<Span<K>>
