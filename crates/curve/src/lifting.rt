@@ -9,7 +9,7 @@ ghost use Rattle.slope.specs.Rules.{given, rec};
 
 use fault::Fault;
 use kind::NumberKind;
-use slope::{Record, Shape, Slopes, present};
+use slope::{Record, Shape, present};
 use span::Span;
 
 // A function of one line. `exact` is the function, `image` its span of values, and `bend` its spans E, G, K for U and U0. Its one
@@ -34,32 +34,29 @@ pub trait Curve<K: NumberKind>: Copy {
 fn lift_slopes<K: NumberKind>(u: Span<K>, u0: Span<K>, f: &Shape<K>, p: &Record<K>) -> Record<K>
     ensures { result ≡ rec u u0 (curves.lift_slopes K.NumberKind.model f.now p.now.slopes) }
 {
+    let flat = Record::flat(u, u0);
     let Some(s) = &p.slopes else {
-        return Record::flat(u, u0);
+        return flat;
     };
     let Some(a) = f.g.product(s.a) else {
-        return Record::flat(u, u0);
+        return flat;
     };
     let Some(b) = f.e.product(s.b) else {
-        return Record::flat(u, u0);
+        return flat;
     };
     let Some(c1) = f.g.product(s.c) else {
-        return Record::flat(u, u0);
+        return flat;
     };
     let Some(c2) = f.k.product(s.a) else {
-        return Record::flat(u, u0);
+        return flat;
     };
     let Some(c3) = c2.product(s.b) else {
-        return Record::flat(u, u0);
+        return flat;
     };
     let Some(c) = c1.sum(c3) else {
-        return Record::flat(u, u0);
+        return flat;
     };
-    Record {
-        u,
-        u0,
-        slopes: Some(Slopes { a, b, c }),
-    }
+    flat.sloped(a, b, c)
 }
 
 fn lift_steps<K: NumberKind, C: Curve<K>>(

@@ -13,35 +13,11 @@ use span::Span;
 #[derive(Clone, Copy)]
 pub struct Magnitude;
 
-fn falling<K: NumberKind>() -> Shape<K>
-    ensures { result ≡ curves.falling K.NumberKind.model }
+// E = G, and K = [0]: the rows where U lies on one side of 0, and the row where U0 does not.
+fn straight<K: NumberKind>(lower: K, upper: K) -> Shape<K>
+    ensures { result ≡ curves.straight K.NumberKind.model lower upper }
 {
-    let e = Span::point(K::one().negated());
-    Shape {
-        e,
-        g: e,
-        k: Span::point(K::zero()),
-    }
-}
-
-fn rising<K: NumberKind>() -> Shape<K>
-    ensures { result ≡ curves.rising K.NumberKind.model }
-{
-    let e = Span::point(K::one());
-    Shape {
-        e,
-        g: e,
-        k: Span::point(K::zero()),
-    }
-}
-
-fn across<K: NumberKind>() -> Shape<K>
-    ensures { result ≡ curves.across K.NumberKind.model }
-{
-    let e = Span {
-        lower: K::one().negated(),
-        upper: K::one(),
-    };
+    let e = Span { lower, upper };
     Shape {
         e,
         g: e,
@@ -53,22 +29,11 @@ fn across<K: NumberKind>() -> Shape<K>
 fn left_row<K: NumberKind>(q: K, s: K) -> Option<Shape<K>>
     ensures { result ≡ curves.left_row K.NumberKind.model q s }
 {
-    let Some(n) = Span::point(q).sum(Span::point(s)) else {
-        return None;
-    };
-    let Some(d) = Span::point(q).difference(Span::point(s)) else {
-        return None;
-    };
-    let Some(g) = n.quotient(d) else {
-        return None;
-    };
+    let n = Span::point(q).sum(Span::point(s))?;
+    let d = Span::point(q).difference(Span::point(s))?;
+    let g = n.quotient(d)?;
     let t = Span::point(s.negated());
-    let Some(twice) = t.sum(t) else {
-        return None;
-    };
-    let Some(k) = Span::point(K::one()).quotient(twice) else {
-        return None;
-    };
+    let k = Span::point(K::one()).quotient(t.sum(t)?)?;
     let low = K::one().negated();
     Some(Shape {
         e: Span::point(low),
@@ -87,10 +52,7 @@ fn left_row<K: NumberKind>(q: K, s: K) -> Option<Shape<K>>
 fn turned<K: NumberKind>(o: Option<Shape<K>>) -> Option<Shape<K>>
     ensures { result ≡ curves.turned K.NumberKind.model o }
 {
-    let Some(f) = o else {
-        return None;
-    };
-    Some(Shape {
+    o.map(|f| Shape {
         e: f.e.negated(),
         g: f.g.negated(),
         k: f.k,
@@ -101,15 +63,16 @@ fn magnitude_shape<K: NumberKind>(u: Span<K>, u0: Span<K>) -> Option<Shape<K>>
     ensures { result ≡ curves.magnitude_shape K.NumberKind.model u u0 }
 {
     let zero = K::zero();
+    let one = K::one();
     if u.upper.at_most(zero) {
-        return Some(falling());
+        return Some(straight(one.negated(), one.negated()));
     }
     if zero.at_most(u.lower) {
-        return Some(rising());
+        return Some(straight(one, one));
     }
     if zero.at_most(u0.upper) {
         if u0.lower.at_most(zero) {
-            return Some(across());
+            return Some(straight(one.negated(), one));
         }
         return turned(left_row(u.lower.negated(), u0.lower.negated()));
     }

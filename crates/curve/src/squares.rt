@@ -16,15 +16,9 @@ pub struct Square;
 fn square_shape<K: NumberKind>(u: Span<K>, u0: Span<K>) -> Option<Shape<K>>
     ensures { result ≡ curves.square_shape K.NumberKind.model u u0 }
 {
-    let Some(e) = u0.sum(u0) else {
-        return None;
-    };
-    let Some(g) = u.sum(u0) else {
-        return None;
-    };
     Some(Shape {
-        e,
-        g,
+        e: u0.sum(u0)?,
+        g: u.sum(u0)?,
         k: Span::point(K::one()),
     })
 }

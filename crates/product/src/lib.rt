@@ -10,57 +10,54 @@ ghost use Rattle.span.specs.Spans as spans;
 
 use fault::Fault;
 use kind::NumberKind;
-use slope::{Record, Slopes, present};
+use slope::{Record, present};
 use span::Span;
 
 // A = Au × V0 + U × Av; B = Bu × V0 + U0 × Bv; C = Cu × V0 + U × Cv + Au × Bv
 fn product_slopes<K: NumberKind>(u: Span<K>, u0: Span<K>, p: &Record<K>, q: &Record<K>) -> Record<K>
     ensures { result ≡ rec u u0 (rules.product_slopes K.NumberKind.model p.now q.now) }
 {
+    let flat = Record::flat(u, u0);
     let Some(s) = &p.slopes else {
-        return Record::flat(u, u0);
+        return flat;
     };
     let Some(t) = &q.slopes else {
-        return Record::flat(u, u0);
+        return flat;
     };
     let Some(a1) = s.a.product(q.u0) else {
-        return Record::flat(u, u0);
+        return flat;
     };
     let Some(a2) = p.u.product(t.a) else {
-        return Record::flat(u, u0);
+        return flat;
     };
     let Some(a) = a1.sum(a2) else {
-        return Record::flat(u, u0);
+        return flat;
     };
     let Some(b1) = s.b.product(q.u0) else {
-        return Record::flat(u, u0);
+        return flat;
     };
     let Some(b2) = p.u0.product(t.b) else {
-        return Record::flat(u, u0);
+        return flat;
     };
     let Some(b) = b1.sum(b2) else {
-        return Record::flat(u, u0);
+        return flat;
     };
     let Some(c1) = s.c.product(q.u0) else {
-        return Record::flat(u, u0);
+        return flat;
     };
     let Some(c2) = p.u.product(t.c) else {
-        return Record::flat(u, u0);
+        return flat;
     };
     let Some(c12) = c1.sum(c2) else {
-        return Record::flat(u, u0);
+        return flat;
     };
     let Some(c3) = s.a.product(t.b) else {
-        return Record::flat(u, u0);
+        return flat;
     };
     let Some(c) = c12.sum(c3) else {
-        return Record::flat(u, u0);
+        return flat;
     };
-    Record {
-        u,
-        u0,
-        slopes: Some(Slopes { a, b, c }),
-    }
+    flat.sloped(a, b, c)
 }
 
 fn product_steps<K: NumberKind>(

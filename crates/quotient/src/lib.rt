@@ -9,7 +9,7 @@ ghost use Rattle.span.specs.Spans as spans;
 
 use fault::{Cause, Fault};
 use kind::NumberKind;
-use slope::{Record, Slopes, present};
+use slope::{Record, present};
 use span::Span;
 
 // W0 = U0 / V0; A = (Au − W0 × Av) / V; B = (Bu − W0 × Bv) / V0; C = (Cu − W0 × Cv − B × Av) / V
@@ -21,50 +21,47 @@ fn quotient_slopes<K: NumberKind>(
 ) -> Record<K>
     ensures { result ≡ rec u u0 (rules.quotient_slopes K.NumberKind.model p.now q.now u0) }
 {
+    let flat = Record::flat(u, u0);
     let Some(s) = &p.slopes else {
-        return Record::flat(u, u0);
+        return flat;
     };
     let Some(t) = &q.slopes else {
-        return Record::flat(u, u0);
+        return flat;
     };
     let Some(a1) = u0.product(t.a) else {
-        return Record::flat(u, u0);
+        return flat;
     };
     let Some(a2) = s.a.difference(a1) else {
-        return Record::flat(u, u0);
+        return flat;
     };
     let Some(a) = a2.quotient(q.u) else {
-        return Record::flat(u, u0);
+        return flat;
     };
     let Some(b1) = u0.product(t.b) else {
-        return Record::flat(u, u0);
+        return flat;
     };
     let Some(b2) = s.b.difference(b1) else {
-        return Record::flat(u, u0);
+        return flat;
     };
     let Some(b) = b2.quotient(q.u0) else {
-        return Record::flat(u, u0);
+        return flat;
     };
     let Some(c1) = u0.product(t.c) else {
-        return Record::flat(u, u0);
+        return flat;
     };
     let Some(c2) = s.c.difference(c1) else {
-        return Record::flat(u, u0);
+        return flat;
     };
     let Some(c3) = b.product(t.a) else {
-        return Record::flat(u, u0);
+        return flat;
     };
     let Some(c4) = c2.difference(c3) else {
-        return Record::flat(u, u0);
+        return flat;
     };
     let Some(c) = c4.quotient(q.u) else {
-        return Record::flat(u, u0);
+        return flat;
     };
-    Record {
-        u,
-        u0,
-        slopes: Some(Slopes { a, b, c }),
-    }
+    flat.sloped(a, b, c)
 }
 
 // Refused first where the divisor's span over the box holds 0.
@@ -76,10 +73,7 @@ fn quotient_steps<K: NumberKind>(
     ensures { result ≡ divided K.NumberKind.model place p.now q.now }
 {
     if q.u.holds_zero() {
-        return Err(Fault {
-            cause: Cause::Divisor,
-            place,
-        });
+        return Err(Cause::Divisor.at(place));
     }
     let u = present(p.u.quotient(q.u), place)?;
     let u0 = present(p.u0.quotient(q.u0), place)?;

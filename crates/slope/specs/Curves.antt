@@ -33,17 +33,21 @@ module _ {K : Type 0} (m : Model K) where
   abbrev pub minus_one : K
   minus_one = m.opposite m.unit
 
+  -- E = G, K = [0]
+  abbrev pub straight : K → K → Shape K
+  straight lower upper = record { e = spans.span m lower upper; g = spans.span m lower upper; k = spans.zero_span m }
+
   -- E = G = [−1], K = [0]
   abbrev pub falling : Shape K
-  falling = record { e = spans.point m minus_one; g = spans.point m minus_one; k = spans.zero_span m }
+  falling = straight minus_one minus_one
 
   -- E = G = [1], K = [0]
   abbrev pub rising : Shape K
-  rising = record { e = spans.one_span m; g = spans.one_span m; k = spans.zero_span m }
+  rising = straight m.unit m.unit
 
   -- E = G = −1 to 1, K = [0]
   abbrev pub across : Shape K
-  across = record { e = spans.span m minus_one m.unit; g = spans.span m minus_one m.unit; k = spans.zero_span m }
+  across = straight minus_one m.unit
 
   -- E = [−1]; G from −1 to the upper end of ([q] + [s]) / ([q] − [s]); K from 0 to the upper end of [1] / ([−s] + [−s])
   abbrev pub left_row : K → K → Option (Shape K)

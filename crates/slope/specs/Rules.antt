@@ -39,7 +39,13 @@ module _ {K : Type 0} (m : Model K) where
   abbrev pub still : Span K → Record K
   still x = rec x x (three (spans.zero_span m) (spans.zero_span m) (spans.zero_span m))
 
-  -- ---- sum and difference, part by part
+  -- ---- sum, difference and negative, part by part
+  abbrev pub negated_slopes : Slopes K → Slopes K
+  negated_slopes s = record { a = spans.negated m s.a; b = spans.negated m s.b; c = spans.negated m s.c }
+
+  abbrev pub negated : Record K → Record K
+  negated p = rec (spans.negated m p.u) (spans.negated m p.u0) (p.slopes >>= (λ s. Some (negated_slopes s)))
+
   abbrev pub sum : Record K → Record K → Option (Record K)
   sum p q = parts (spans.sum m) p q
 

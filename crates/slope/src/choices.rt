@@ -6,28 +6,21 @@ ghost use Rattle.slope.specs.Rules as rules;
 ghost use Rattle.slope.specs.Truth.{Chosen, Branched};
 ghost use Rattle.span.specs.Spans.{hull};
 
-use crate::record::{Record, Slopes};
+use crate::record::Record;
 use kind::NumberKind;
 use span::Span;
 
 fn joined<K: NumberKind>(u: Span<K>, u0: Span<K>, p: &Record<K>, q: &Record<K>) -> Record<K>
     ensures { result ≡ rec u u0 (rules.hulls K.NumberKind.model p.now q.now) }
 {
+    let flat = Record::flat(u, u0);
     let Some(s) = &p.slopes else {
-        return Record::flat(u, u0);
+        return flat;
     };
     let Some(t) = &q.slopes else {
-        return Record::flat(u, u0);
+        return flat;
     };
-    Record {
-        u,
-        u0,
-        slopes: Some(Slopes {
-            a: s.a.hull(t.a),
-            b: s.b.hull(t.b),
-            c: s.c.hull(t.c),
-        }),
-    }
+    flat.sloped(s.a.hull(t.a), s.b.hull(t.b), s.c.hull(t.c))
 }
 
 fn greater_steps<K: NumberKind>(p: &Record<K>, q: &Record<K>) -> Record<K>

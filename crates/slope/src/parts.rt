@@ -1,6 +1,6 @@
 // Channels, constants, sums and differences.
 ghost use Rattle.std.specs.Prelude.{◌≡◌};
-ghost use Rattle.slope.specs.Rules.{given, rec};
+ghost use Rattle.slope.specs.Rules.{given, rec, three};
 ghost use Rattle.exact.specs.Fraction.{◌+F◌, ◌-F◌};
 ghost use Rattle.slope.specs.Rules as rules;
 ghost use Rattle.slope.specs.Truth.{Kept};
@@ -11,62 +11,48 @@ use fault::Fault;
 use kind::NumberKind;
 use span::Span;
 
+// A record of a straight line: slopes [s], [s], [0].
+fn straight<K: NumberKind>(u: Span<K>, u0: Span<K>, s: K) -> Record<K>
+    ensures { result ≡ rec u u0 (three (spans.point K.NumberKind.model s) (spans.point K.NumberKind.model s) (spans.zero_span K.NumberKind.model)) }
+{
+    let s = Span::point(s);
+    Record::flat(u, u0).sloped(s, s, Span::point(K::zero()))
+}
+
 // The swept channel, with the span of its range and that of its centre.
 pub fn swept<K: NumberKind>(x: Span<K>, x0: Span<K>) -> Record<K>
     ensures { result ≡ rules.swept K.NumberKind.model x x0 }
 {
-    let one = Span::point(K::one());
-    let zero = Span::point(K::zero());
-    Record {
-        u: x,
-        u0: x0,
-        slopes: Some(Slopes {
-            a: one,
-            b: one,
-            c: zero,
-        }),
-    }
+    straight(x, x0, K::one())
 }
 
 // What does not move with the swept channel: another channel, or a constant.
 pub fn still<K: NumberKind>(x: Span<K>) -> Record<K>
     ensures { result ≡ rules.still K.NumberKind.model x }
 {
-    let zero = Span::point(K::zero());
-    Record {
-        u: x,
-        u0: x,
-        slopes: Some(Slopes {
-            a: zero,
-            b: zero,
-            c: zero,
-        }),
-    }
+    straight(x, x, K::zero())
 }
 
 fn sum_slopes<K: NumberKind>(u: Span<K>, u0: Span<K>, p: &Record<K>, q: &Record<K>) -> Record<K>
     ensures { result ≡ rec u u0 (rules.part_slopes (spans.sum K.NumberKind.model) p.now q.now) }
 {
+    let flat = Record::flat(u, u0);
     let Some(s) = &p.slopes else {
-        return Record::flat(u, u0);
+        return flat;
     };
     let Some(t) = &q.slopes else {
-        return Record::flat(u, u0);
+        return flat;
     };
     let Some(a) = s.a.sum(t.a) else {
-        return Record::flat(u, u0);
+        return flat;
     };
     let Some(b) = s.b.sum(t.b) else {
-        return Record::flat(u, u0);
+        return flat;
     };
     let Some(c) = s.c.sum(t.c) else {
-        return Record::flat(u, u0);
+        return flat;
     };
-    Record {
-        u,
-        u0,
-        slopes: Some(Slopes { a, b, c }),
-    }
+    flat.sloped(a, b, c)
 }
 
 fn sum_steps<K: NumberKind>(p: &Record<K>, q: &Record<K>, place: usize) -> Result<Record<K>, Fault>
@@ -84,36 +70,22 @@ pub fn sum<K: NumberKind>(p: &Record<K>, q: &Record<K>, place: usize) -> Result<
     sum_steps(p, q, place)
 }
 
-fn difference_slopes<K: NumberKind>(
-    u: Span<K>,
-    u0: Span<K>,
-    p: &Record<K>,
-    q: &Record<K>,
-) -> Record<K>
-    ensures { result ≡ rec u u0 (rules.part_slopes (spans.difference K.NumberKind.model) p.now q.now) }
+// The negative of a record, part by part.
+fn negated<K: NumberKind>(p: &Record<K>) -> Record<K>
+    ensures { result ≡ rules.negated K.NumberKind.model p.now }
 {
-    let Some(s) = &p.slopes else {
-        return Record::flat(u, u0);
-    };
-    let Some(t) = &q.slopes else {
-        return Record::flat(u, u0);
-    };
-    let Some(a) = s.a.difference(t.a) else {
-        return Record::flat(u, u0);
-    };
-    let Some(b) = s.b.difference(t.b) else {
-        return Record::flat(u, u0);
-    };
-    let Some(c) = s.c.difference(t.c) else {
-        return Record::flat(u, u0);
-    };
     Record {
-        u,
-        u0,
-        slopes: Some(Slopes { a, b, c }),
+        u: p.u.negated(),
+        u0: p.u0.negated(),
+        slopes: p.slopes.map(|s| Slopes {
+            a: s.a.negated(),
+            b: s.b.negated(),
+            c: s.c.negated(),
+        }),
     }
 }
 
+// The sum with the negative.
 fn difference_steps<K: NumberKind>(
     p: &Record<K>,
     q: &Record<K>,
@@ -121,9 +93,7 @@ fn difference_steps<K: NumberKind>(
 ) -> Result<Record<K>, Fault>
     ensures { result ≡ given place (rules.difference K.NumberKind.model p.now q.now) }
 {
-    let u = present(p.u.difference(q.u), place)?;
-    let u0 = present(p.u0.difference(q.u0), place)?;
-    Ok(difference_slopes(u, u0, p, q))
+    sum_steps(p, &negated(q), place)
 }
 
 pub fn difference<K: NumberKind>(

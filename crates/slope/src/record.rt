@@ -1,13 +1,13 @@
 // Records of lines.
 ghost use Rattle.std.specs.Prelude.{◌≡◌, None};
-ghost use Rattle.slope.specs.Rules.{given, rec};
+ghost use Rattle.slope.specs.Rules.{given, rec, three};
 
 use fault::{Cause, Fault};
 use kind::NumberKind;
 use span::Span;
 
 // The slope spans of a line, in the forms u − u0 = a × h and u − u0 = b × h + c × h × h.
-#[derive(Clone, Copy)]
+#[derive(Clone, Copy, PartialEq, Eq, Debug)]
 pub struct Slopes<K: NumberKind> {
     pub a: Span<K>,
     pub b: Span<K>,
@@ -15,7 +15,7 @@ pub struct Slopes<K: NumberKind> {
 }
 
 // What is known of a line: its span over the box, its span at the centre, and its slopes or none.
-#[derive(Clone, Copy)]
+#[derive(Clone, Copy, PartialEq, Eq, Debug)]
 pub struct Record<K: NumberKind> {
     pub u: Span<K>,
     pub u0: Span<K>,
@@ -23,7 +23,7 @@ pub struct Record<K: NumberKind> {
 }
 
 // The spans E, G, K of a curve for one U and U0.
-#[derive(Clone, Copy)]
+#[derive(Clone, Copy, PartialEq, Eq, Debug)]
 pub struct Shape<K: NumberKind> {
     pub e: Span<K>,
     pub g: Span<K>,
@@ -41,17 +41,21 @@ impl<K: NumberKind> Record<K> {
             slopes: None,
         }
     }
+
+    // The record with these slopes in place of its own.
+    pub fn sloped(self, a: Span<K>, b: Span<K>, c: Span<K>) -> Record<K>
+        ensures { result ≡ rec self.u self.u0 (three a b c) }
+    {
+        Record {
+            slopes: Some(Slopes { a, b, c }),
+            ..self
+        }
+    }
 }
 
 // The span of a result has to be there; its absence is a refusal at the line.
 pub fn present<K: NumberKind>(span: Option<Span<K>>, place: usize) -> Result<Span<K>, Fault>
     ensures { result ≡ given place span }
 {
-    match span {
-        Some(u) => Ok(u),
-        None => Err(Fault {
-            cause: Cause::Absent,
-            place,
-        }),
-    }
+    span.ok_or(Cause::Absent.at(place))
 }
