@@ -1,29 +1,40 @@
 -- The ends of the channels of a stored box.
-use Rattle.std.proofs.Common.{◌≡◌, ℕ, zero, suc, ◌<◌, ◌≤◌, List, [], ◌∷◌, length, get_or, take, pos, Some, None, sym, refl, subst, arith}
+use Rattle.std.proofs.Common.{◌≡◌, ℕ, zero, suc, ◌<◌, ◌≤◌, List, [], ◌∷◌, length, get_or, map, take, Some, None, refl, ap, ◌∙◌, arith}
+use Rattle.std.proofs.lemmas.Option.{slice_get-get_or, slice_get-map}
 use Rattle.std.specs.List.{slice_get}
-use Rattle.boxes.specs.Stored.{box_of}
+use Rattle.std.specs.Option.{option_map}
+use Rattle.boxes.specs.Stored.{lowers, uppers}
 use Rattle.boxes.specs.declared.channels.ChannelBox.{ChannelBox}
+use Rattle.boxes.specs.declared.range.Range.{Range}
 
--- the elements of the first of a list
+-- the elements of the first n of a list
 module _ {X : Type 0} where
-  nth_of_first : (n : ℕ) (xs : List X) (i : ℕ) (d : X) → i < n → n ≤ length xs → slice_get (take n xs) i ≡ Some (get_or xs i d)
-  nth_of_first zero xs i d l h = absurd (omega arith)
-  nth_of_first (suc n) [] i d l h = absurd (omega arith)
-  nth_of_first (suc n) (x ∷ xs) zero d l h = refl
-  nth_of_first (suc n) (x ∷ xs) (suc i) d l h = nth_of_first n xs i d (omega arith) (omega arith)
+  first_at : (n : ℕ) (xs : List X) (i : ℕ) → i < n → slice_get (take n xs) i ≡ slice_get xs i
+  first_at zero xs i h = absurd (omega arith)
+  first_at (suc n) [] i h = refl
+  first_at (suc n) (x ∷ xs) zero h = refl
+  first_at (suc n) (x ∷ xs) (suc i) h = first_at n xs i (omega arith)
 
-  nth_beyond_first : (n : ℕ) (xs : List X) (i : ℕ) → n ≤ i → slice_get (take n xs) i ≡ None
-  nth_beyond_first zero xs i l = refl
-  nth_beyond_first (suc n) [] i l = refl
-  nth_beyond_first (suc n) (x ∷ xs) zero l = absurd (omega arith)
-  nth_beyond_first (suc n) (x ∷ xs) (suc i) l = nth_beyond_first n xs i (omega arith)
+  past_first : (n : ℕ) (xs : List X) (i : ℕ) → n ≤ i → slice_get (take n xs) i ≡ None
+  past_first zero xs i h = refl
+  past_first (suc n) [] i h = refl
+  past_first (suc n) (x ∷ xs) zero h = absurd (omega arith)
+  past_first (suc n) (x ∷ xs) (suc i) h = past_first n xs i (omega arith)
 
-module _ (b : ChannelBox) (c : ℕ) where
-  pub lower_at : c < b.channels → slice_get (box_of b).lower c ≡ Some (get_or b.lower c (pos 0))
-  lower_at h = nth_of_first b.channels b.lower c (pos 0) h (subst (λ n. b.channels ≤ n) (sym b.lowers) b.few)
+module _ (rs : List Range) (n c : ℕ) where
+  -- an end of each of the first ranges
+  end_at : {Y : Type 0} (f : Range → Y) {r : Range} → c < n → slice_get rs c ≡ Some r → slice_get (map f (take n rs)) c ≡ Some (f r)
+  end_at f h e = slice_get-map f (take n rs) c ∙ ap (option_map f) (first_at n rs c h ∙ e)
 
-  pub upper_at : c < b.channels → slice_get (box_of b).upper c ≡ Some (get_or b.upper c (pos 0))
-  upper_at h = nth_of_first b.channels b.upper c (pos 0) h (subst (λ n. b.channels ≤ n) (sym b.uppers) b.few)
+  pub lower_at : {r : Range} → c < n → slice_get rs c ≡ Some r → slice_get (lowers (take n rs)) c ≡ Some r.lower
+  lower_at = end_at (λ r. r.lower)
 
-  pub no_lower : b.channels ≤ c → slice_get (box_of b).lower c ≡ None
-  no_lower h = nth_beyond_first b.channels b.lower c h
+  pub upper_at : {r : Range} → c < n → slice_get rs c ≡ Some r → slice_get (uppers (take n rs)) c ≡ Some r.upper
+  upper_at = end_at (λ r. r.upper)
+
+  pub no_lower : n ≤ c → slice_get (lowers (take n rs)) c ≡ None
+  no_lower h = slice_get-map (λ r. r.lower) (take n rs) c ∙ ap (option_map (λ r. r.lower)) (past_first n rs c h)
+
+-- the range of channel c as the code reads it
+pub stored_at : (b : ChannelBox) (c : ℕ) (d : Range) → c < b.channels → slice_get b.ranges c ≡ Some (get_or b.ranges c d)
+stored_at b c d h = slice_get-get_or b.ranges c d (let k = b.few in let w = b.whole in omega arith)

@@ -1,95 +1,85 @@
 -- Judging the ranges of the channels one by one.
-use Rattle.std.proofs.Common.{◌≡◌, ℕ, suc, ◌+◌, ◌<◌, ◌≤◌, Bool, true, false, cond, T, List, [], ◌∷◌, ◌++◌, length, get_or, take, drop, set, ℤ, pos, ◌≤ℤ◌, IfOk, Ok, Err, Result, sym, refl, ap, ◌∙◌, subst, ap₂, subst₂, arith, length-set, take_all, get_or-set_other, get_or-take, get_or-set_same, take-take, below_more}
-use lib.Signed.{le_z, le_z_yes}
-use Rattle.std.proofs.lemmas.List.{drop_all, drop_more, take_more, take_more_set}
+use Rattle.std.proofs.Common.{◌≡◌, ℕ, suc, ◌+◌, ◌<◌, Bool, true, false, cond, List, [], ◌∷◌, ◌++◌, length, get_or, map, take, drop, set, ℤ, pos, IfOk, Some, Ok, Err, Result, sym, refl, ap, ◌∙◌, subst, ap₂, arith, length-set, take_all}
+use lib.Signed.{le_z}
+use Rattle.std.proofs.lemmas.List.{drop_all, drop_more, map_push, take_more, take_more_set}
+use Rattle.std.specs.List.{slice_get}
 use Rattle.fault.specs.Refusals.{after, refused}
 use Rattle.fault.specs.declared.fault.Cause.TheVariants.{Number, Order}
 use Rattle.fault.specs.declared.fault.Fault.{Fault}
+use Rattle.boxes.proofs.Ends.{lower_at, upper_at}
 use Rattle.boxes.specs.Boxes.{is_count, range, ranges}
+use Rattle.boxes.specs.Stored.{lowers, ranged, uppers}
+use Rattle.boxes.specs.declared.range.Range.{Range}
 
 -- ---- what an accepted range tells
 abbrev Told : ℤ → ℤ → Result (ℤ × ℤ) Fault → Type 0
-Told x y r = IfOk r (λ p. (p ≡ (x, y)) × (x ≤ℤ y))
+Told x y r = IfOk r (λ p. p ≡ (x, y))
 
 range_told : (x y : ℤ) (channel : ℕ) → Told x y (range x y channel)
 range_told x y channel = both (is_count x) (is_count y)
   where
-    last : (c : Bool) → le_z x y ≡ c → Told x y (cond c (Ok (x, y)) (refused Order channel))
-    last false e = tt
-    last true e = (refl, le_z_yes (subst T (sym e) tt))
+    last : (c : Bool) → Told x y (cond c (Ok (x, y)) (refused Order channel))
+    last false = tt
+    last true = refl
 
     both : (a b : Bool) → Told x y (after (cond a (Ok x) (refused Number channel)) (λ l. after (cond b (Ok y) (refused Number channel)) (λ u. cond (le_z l u) (Ok (l, u)) (refused Order channel))))
     both false b = tt
     both true false = tt
-    both true true = last (le_z x y) refl
+    both true true = last (le_z x y)
 
-pub range_is : (x y : ℤ) (channel : ℕ) (p : ℤ × ℤ) → Ok p ≡ range x y channel → (p ≡ (x, y)) × (x ≤ℤ y)
+range_is : (x y : ℤ) (channel : ℕ) (p : ℤ × ℤ) → Ok p ≡ range x y channel → p ≡ (x, y)
 range_is x y channel p e = subst (Told x y) (sym e) (range_told x y channel)
 
 -- ---- the first n channels are judged and stored
-pub record Judged (lower upper lowers uppers : List ℤ) (n : ℕ) : Type 0 where
-  pub all_lowers : length lowers ≡ 8
-  pub all_uppers : length uppers ≡ 8
-  pub lows : take n lowers ≡ take n lower
-  pub highs : take n uppers ≡ take n upper
-  pub ordered : (c : ℕ) → c < n → get_or lowers c (pos 0) ≤ℤ get_or uppers c (pos 0)
+pub record Judged (lower upper : List ℤ) (rs : List Range) (n : ℕ) : Type 0 where
+  pub all : length rs ≡ 8
+  pub lows : lowers (take n rs) ≡ take n lower
+  pub highs : uppers (take n rs) ≡ take n upper
   pub rest : ranges 0 lower upper ≡ ranges n (drop n lower) (drop n upper)
 
 module _ {lower upper : List ℤ} where
-  pub judged_none : {lowers uppers : List ℤ} → length lowers ≡ 8 → length uppers ≡ 8 → Judged lower upper lowers uppers 0
-  judged_none a b = record { all_lowers = a; all_uppers = b; lows = refl; highs = refl; ordered = λ c h. absurd (omega arith); rest = refl }
+  pub judged_none : {rs : List Range} → length rs ≡ 8 → Judged lower upper rs 0
+  judged_none a = record { all = a; lows = refl; highs = refl; rest = refl }
 
-  module _ {lowers uppers : List ℤ} {n : ℕ} (j : Judged lower upper lowers uppers n) (k : n < length lower) (k' : n < length upper) where
-    next : ranges 0 lower upper ≡ after (range (get_or lower n (pos 0)) (get_or upper n (pos 0)) n) (λ _. ranges (n + 1) (drop (n + 1) lower) (drop (n + 1) upper))
+  -- the ends of the next channel as the code has them
+  module _ {rs : List Range} {n : ℕ} (j : Judged lower upper rs n) (k : n < length lower) (k' : n < length upper)
+      {x y : ℤ} (ex : x ≡ get_or lower n (pos 0)) (ey : y ≡ get_or upper n (pos 0)) where
+    next : ranges 0 lower upper ≡ after (range x y n) (λ _. ranges (n + 1) (drop (n + 1) lower) (drop (n + 1) upper))
     next = j.rest ∙ ap₂ (ranges n) (drop_more lower n (pos 0) k) (drop_more upper n (pos 0) k')
         ∙ ap (λ i. after (range (get_or lower n (pos 0)) (get_or upper n (pos 0)) n) (λ _. ranges i (drop (n + 1) lower) (drop (n + 1) upper))) {x = suc n} {y = n + 1} (omega arith)
+        ∙ sym (ap₂ (λ a b. after (range a b n) (λ _. ranges (n + 1) (drop (n + 1) lower) (drop (n + 1) upper))) ex ey)
 
-    module _ {p : ℤ × ℤ} (few : n < 8) (q : Ok p ≡ range (get_or lower n (pos 0)) (get_or upper n (pos 0)) n) where
-      told : (p ≡ (get_or lower n (pos 0), get_or upper n (pos 0))) × (get_or lower n (pos 0) ≤ℤ get_or upper n (pos 0))
-      told = range_is _ _ _ _ q
+    pub judged_out : {e : Fault} → Err e ≡ range x y n → ranges 0 lower upper ≡ Err e
+    judged_out q = next ∙ ap (λ r. after r (λ _. ranges (n + 1) (drop (n + 1) lower) (drop (n + 1) upper))) (sym q)
 
-      judged_more : Judged lower upper (set lowers n p.0) (set uppers n p.1) (n + 1)
-      judged_more = record {
-        all_lowers = length-set lowers n _ ∙ j.all_lowers;
-        all_uppers = length-set uppers n _ ∙ j.all_uppers;
-        lows = stored lowers lower p.0 j.all_lowers k j.lows (ap (λ z. z.0) told.0);
-        highs = stored uppers upper p.1 j.all_uppers k' j.highs (ap (λ z. z.1) told.0);
-        ordered = below_more (λ c. get_or (set lowers n p.0) c (pos 0) ≤ℤ get_or (set uppers n p.1) c (pos 0)) n
-            (λ c h. subst₂ ◌≤ℤ◌ (sym (get_or-set_other lowers n c p.0 (pos 0) (λ e. absurd (omega arith)))) (sym (get_or-set_other uppers n c p.1 (pos 0) (λ e. absurd (omega arith)))) (j.ordered c h))
-            (subst₂ ◌≤ℤ◌ (sym (get_or-set_same lowers n p.0 (pos 0) (omega (arith, j.all_lowers)) ∙ ap (λ z. z.0) told.0)) (sym (get_or-set_same uppers n p.1 (pos 0) (omega (arith, j.all_uppers)) ∙ ap (λ z. z.1) told.0)) told.1);
-        rest = next ∙ ap (λ r. after r (λ _. ranges (n + 1) (drop (n + 1) lower) (drop (n + 1) upper))) (sym q);
-      }
-        where
-          stored : (xs ys : List ℤ) (x : ℤ) → length xs ≡ 8 → n < length ys → take n xs ≡ take n ys → x ≡ get_or ys n (pos 0) → take (n + 1) (set xs n x) ≡ take (n + 1) ys
-          stored xs ys x l h e v = take_more_set xs n x (omega arith) ∙ (λ i. e i ++ v i ∷ []) ∙ sym (take_more ys n (pos 0) h)
-
-    -- the ends of the channel as the code has them
-    module _ {x y : ℤ} (ex : x ≡ get_or lower n (pos 0)) (ey : y ≡ get_or upper n (pos 0)) where
-      pub judged_out : {e : Fault} → Err e ≡ range x y n → ranges 0 lower upper ≡ Err e
-      judged_out q = next ∙ ap (λ r. after r (λ _. ranges (n + 1) (drop (n + 1) lower) (drop (n + 1) upper))) (sym (q ∙ ap₂ (λ a b. range a b n) ex ey))
-
-      pub judged_on : {l u l' u' : ℤ} → n < 8 → Ok (l, u) ≡ range x y n → l' ≡ l → u' ≡ u → Judged lower upper (set lowers n l') (set uppers n u') (n + 1)
-      judged_on few q el eu = subst₂ (λ a b. Judged lower upper (set lowers n a) (set uppers n b) (n + 1)) (sym el) (sym eu) (judged_more few (q ∙ ap₂ (λ a b. range a b n) ex ey))
+    pub judged_on : (r : Range) → n < 8 → ranged (Ok r) ≡ range x y n → Judged lower upper (set rs n r) (n + 1)
+    judged_on r few q = record {
+      all = length-set rs n r ∙ j.all;
+      lows = stored (λ r. r.lower) lower k j.lows (ap (λ p. p.0) (range_is x y n _ q) ∙ ex);
+      highs = stored (λ r. r.upper) upper k' j.highs (ap (λ p. p.1) (range_is x y n _ q) ∙ ey);
+      rest = next ∙ ap (λ r. after r (λ _. ranges (n + 1) (drop (n + 1) lower) (drop (n + 1) upper))) (sym q);
+    }
+      where
+        stored : (f : Range → ℤ) (ys : List ℤ) → n < length ys → map f (take n rs) ≡ take n ys → f r ≡ get_or ys n (pos 0) → map f (take (n + 1) (set rs n r)) ≡ take (n + 1) ys
+        stored f ys h e v = ap (map f) (take_more_set rs n r (omega (arith, j.all))) ∙ map_push f (take n rs) r ∙ (λ i. e i ++ v i ∷ []) ∙ sym (take_more ys n (pos 0) h)
 
   -- ---- all of them
-  module _ {lowers uppers : List ℤ} {n : ℕ} (j : Judged lower upper lowers uppers n) (all : length lower ≤ n) where
+  module _ {rs : List Range} {n : ℕ} (j : Judged lower upper rs n) (is : n ≡ length lower) where
     pub judged_all : ranges 0 lower upper ≡ Ok tt
-    judged_all = j.rest ∙ ap (λ ls. ranges n ls (drop n upper)) (drop_all n lower all)
+    judged_all = j.rest ∙ ap (λ ls. ranges n ls (drop n upper)) (drop_all n lower (omega (arith, is)))
 
-    whole : (xs ys : List ℤ) → take n xs ≡ take n ys → length ys ≤ n → take (length ys) xs ≡ ys
-    whole xs ys e h = sym (take-take (length ys) n xs h) ∙ ap (take (length ys)) e ∙ take-take (length ys) n ys h ∙ take_all (length ys) ys (omega arith)
+    whole : (f : Range → ℤ) (ys : List ℤ) → map f (take n rs) ≡ take n ys → length lower ≡ length ys → map f (take (length lower) rs) ≡ ys
+    whole f ys e h = ap (λ k. map f (take k rs)) (sym is) ∙ e ∙ take_all n ys (omega (arith, is, h))
 
-    at : (xs ys : List ℤ) → take n xs ≡ take n ys → (c : ℕ) → c < n → get_or xs c (pos 0) ≡ get_or ys c (pos 0)
-    at xs ys e c h = sym (get_or-take n xs c (pos 0) h) ∙ ap (λ zs. get_or zs c (pos 0)) e ∙ get_or-take n ys c (pos 0) h
+    pub all_low : lowers (take (length lower) rs) ≡ lower
+    all_low = whole (λ r. r.lower) lower j.lows refl
 
-    pub all_low : take (length lower) lowers ≡ lower
-    all_low = whole lowers lower j.lows all
+    pub all_high : length lower ≡ length upper → uppers (take (length lower) rs) ≡ upper
+    all_high = whole (λ r. r.upper) upper j.highs
 
-    pub all_high : length lower ≡ length upper → take (length lower) uppers ≡ upper
-    all_high e = ap (λ k. take k uppers) e ∙ whole uppers upper j.highs (omega arith)
+    module _ (c : ℕ) {r : Range} (h : c < length lower) (e : slice_get rs c ≡ Some r) where
+      pub low_at : slice_get lower c ≡ Some r.lower
+      low_at = ap (λ ls. slice_get ls c) (sym all_low) ∙ lower_at rs (length lower) c h e
 
-    pub low_at : (c : ℕ) → c < length lower → get_or lowers c (pos 0) ≡ get_or lower c (pos 0)
-    low_at c h = at lowers lower j.lows c (omega arith)
-
-    pub high_at : (c : ℕ) → c < length lower → get_or uppers c (pos 0) ≡ get_or upper c (pos 0)
-    high_at c h = at uppers upper j.highs c (omega arith)
+      pub high_at : length lower ≡ length upper → slice_get upper c ≡ Some r.upper
+      high_at same = ap (λ us. slice_get us c) (sym (all_high same)) ∙ upper_at rs (length lower) c h e

@@ -1,3 +1,3 @@
+pub mod Ends
 pub mod Judged
 pub mod Opened
-pub mod Ends

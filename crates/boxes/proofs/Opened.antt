@@ -1,7 +1,7 @@
 -- Opening, case by case.
-use Rattle.std.proofs.Common.{◌≡◌, ℕ, ◌<◌, ◌≤◌, Bool, true, false, cond, ◌&&◌, T, List, length, get_or, ℤ, pos, ◌≤ℤ◌, IsErrAnd, IfOk, Ok, Err, Result, sym, refl, ap, ◌∙◌, subst, ap₂, subst₂}
+use Rattle.std.proofs.Common.{◌≡◌, ℕ, ◌≤◌, Bool, true, false, cond, ◌&&◌, T, List, length, get_or, ℤ, ◌≤ℤ◌, IsErrAnd, IfOk, Some, Ok, Err, Result, sym, refl, ap, ◌∙◌, subst, ap₂, subst₂}
 use lib.Signed.{le_z, le_z_yes}
-use Rattle.std.proofs.lemmas.Option.{slice_get-get_or, slice_get_past}
+use Rattle.std.proofs.lemmas.Option.{get_or_from_slice_get, slice_get_past}
 use Rattle.std.proofs.lemmas.Result.{err_from_is_err_and}
 use Rattle.std.proofs.lemmas.Bool.{eq-eqb, le-ltb, ne_eqb}
 use Rattle.std.specs.List.{slice_get}
@@ -11,6 +11,7 @@ use Rattle.fault.specs.declared.fault.Fault.{Fault}
 use Rattle.boxes.specs.Boxes.{Box, centred, is_count, opened, ranges}
 use Rattle.boxes.specs.Stored.{boxed}
 use Rattle.boxes.specs.declared.channels.ChannelBox.{ChannelBox}
+use Rattle.boxes.specs.declared.range.Range.{Range}
 
 -- ---- what an accepted centre tells
 abbrev Within : ℤ → ℤ → ℤ → Result ℤ Fault → Type 0
@@ -28,12 +29,13 @@ centred_told l u x channel = counts (is_count x)
     counts false = tt
     counts true = both (le_z l x) (le_z x u) refl refl
 
-centred_is : (l u x : ℤ) (channel : ℕ) (y : ℤ) → Ok y ≡ centred l u x channel → (y ≡ x) × (l ≤ℤ x) × (x ≤ℤ u)
-centred_is l u x channel y e = subst (Within l u x) (sym e) (centred_told l u x channel)
-
-pub centred_in : {l u l' u' y y' : ℤ} (x : ℤ) (channel : ℕ) → l' ≡ l → u' ≡ u → y' ≡ y → Ok y ≡ centred l' u' x channel → (l ≤ℤ y') × (y' ≤ℤ u)
-centred_in {l} {u} {l'} {u'} {y} {y'} x channel el eu ey e = let p = centred_is l' u' x channel y e in
-    (subst₂ ◌≤ℤ◌ el (sym (ey ∙ p.0)) p.1, subst₂ ◌≤ℤ◌ (sym (ey ∙ p.0)) eu p.2)
+-- ---- so it lies in the range of its channel, as the code has both
+pub centre_inside : (rs : List Range) (swept : ℕ) {r : Range} → slice_get rs swept ≡ Some r → (x : ℤ) (d : Range) {y y' : ℤ} → y' ≡ y
+    → Ok y ≡ centred (get_or rs swept d).lower (get_or rs swept d).upper x swept → (r.lower ≤ℤ y') × (y' ≤ℤ r.upper)
+centre_inside rs swept {r = r} e x d {y = y} {y' = y'} same q = subst₂ (λ r z. (r.lower ≤ℤ z) × (z ≤ℤ r.upper)) (get_or_from_slice_get rs swept r d e) (sym (same ∙ p.0)) (p.1, p.2)
+  where
+    p : (y ≡ x) × ((get_or rs swept d).lower ≤ℤ x) × (x ≤ℤ (get_or rs swept d).upper)
+    p = subst (Within (get_or rs swept d).lower (get_or rs swept d).upper x) (sym q) (centred_told _ _ x swept)
 
 -- ---- the steps of opening
 module _ (lower upper : List ℤ) (swept : ℕ) (centre : ℤ) where
@@ -54,23 +56,19 @@ module _ (lower upper : List ℤ) (swept : ℕ) (centre : ℤ) where
       pub not_swept : length lower ≤ swept → refused NoChannel swept ≡ opened lower upper swept centre
       not_swept h = sym (opened_is ∙ ap judged q ∙ ap (λ o. after (found NoChannel swept o) (λ l. after (found NoChannel swept (slice_get upper swept)) (λ u. about l u))) (slice_get_past lower swept h))
 
-      module _ (h : swept < length lower) where
-        ends : opened lower upper swept centre ≡ about (get_or lower swept (pos 0)) (get_or upper swept (pos 0))
-        ends = opened_is ∙ ap judged q ∙ ap₂ (λ o n. after (found NoChannel swept o) (λ l. after (found NoChannel swept n) (λ u. about l u)))
-            (slice_get-get_or lower swept (pos 0) h) (slice_get-get_or upper swept (pos 0) (subst (λ n. swept < n) same h))
+      -- the ends of the swept channel, and the centre as the code has it
+      module _ {l u : ℤ} (el : slice_get lower swept ≡ Some l) (eu : slice_get upper swept ≡ Some u) {x : ℤ} (ex : x ≡ centre) where
+        ends : opened lower upper swept centre ≡ after (centred l u x swept) (λ x. Ok (record { lower = lower; upper = upper; swept = swept; centre = x }))
+        ends = opened_is ∙ ap judged q ∙ ap₂ (λ o n. after (found NoChannel swept o) (λ l. after (found NoChannel swept n) (λ u. about l u))) el eu
+            ∙ ap (λ x. after (centred l u x swept) (λ x. Ok (record { lower = lower; upper = upper; swept = swept; centre = x }))) (sym ex)
 
-        -- the ends and the centre as the code has them
-        module _ {l u x : ℤ} (el : l ≡ get_or lower swept (pos 0)) (eu : u ≡ get_or upper swept (pos 0)) (ex : x ≡ centre) where
-          same_centred : centred l u x swept ≡ centred (get_or lower swept (pos 0)) (get_or upper swept (pos 0)) centre swept
-          same_centred i = centred (el i) (eu i) (ex i) swept
+        pub bad_centre : {e : Fault} → Err e ≡ centred l u x swept → Err e ≡ opened lower upper swept centre
+        bad_centre k = sym (ends ∙ ap (λ r. after r (λ x. Ok (record { lower = lower; upper = upper; swept = swept; centre = x }))) (sym k))
 
-          pub bad_centre : {e : Fault} → Err e ≡ centred l u x swept → Err e ≡ opened lower upper swept centre
-          bad_centre k = sym (ends ∙ ap (λ r. after r (λ x. Ok (record { lower = lower; upper = upper; swept = swept; centre = x }))) (sym (k ∙ same_centred)))
-
-          pub opens : {y y' : ℤ} {lowers uppers : List ℤ} → y' ≡ y → lowers ≡ lower → uppers ≡ upper → Ok y ≡ centred l u x swept
-              → Ok (record { lower = lowers; upper = uppers; swept = swept; centre = y' }) ≡ opened lower upper swept centre
-          opens ey e f k = (λ i. Ok (record { lower = e i; upper = f i; swept = swept; centre = ey i }))
-              ∙ sym (ends ∙ ap (λ r. after r (λ x. Ok (record { lower = lower; upper = upper; swept = swept; centre = x }))) (sym (k ∙ same_centred)))
+        pub opens : {y y' : ℤ} {lowers uppers : List ℤ} → y' ≡ y → lowers ≡ lower → uppers ≡ upper → Ok y ≡ centred l u x swept
+            → Ok (record { lower = lowers; upper = uppers; swept = swept; centre = y' }) ≡ opened lower upper swept centre
+        opens ey e f k = (λ i. Ok (record { lower = e i; upper = f i; swept = swept; centre = ey i }))
+            ∙ sym (ends ∙ ap (λ r. after r (λ x. Ok (record { lower = lower; upper = upper; swept = swept; centre = x }))) (sym k))
 
 -- what a refused step returns
 pub exit : (r : Result ChannelBox Fault) {e : Fault} {F : Result Box Fault} → IsErrAnd r (λ y. y ≡ e) → Err e ≡ F → boxed r ≡ F

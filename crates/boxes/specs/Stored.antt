@@ -1,11 +1,23 @@
 -- What a box of the code holds.
-use Rattle.std.specs.Prelude.{take, Ok, Err, Result}
+use Rattle.std.specs.Prelude.{List, map, take, ℤ, Ok, Err, Result}
 use Rattle.fault.specs.declared.fault.Fault.{Fault}
 use Rattle.boxes.specs.Boxes.{Box}
 use Rattle.boxes.specs.declared.channels.ChannelBox.{ChannelBox}
+use Rattle.boxes.specs.declared.range.Range.{Range}
+
+abbrev pub lowers : List Range → List ℤ
+lowers = map (λ r. r.lower)
+
+abbrev pub uppers : List Range → List ℤ
+uppers = map (λ r. r.upper)
 
 abbrev pub box_of : ChannelBox → Box
-box_of b = record { lower = take b.channels b.lower; upper = take b.channels b.upper; swept = b.swept; centre = b.centre }
+box_of b = record { lower = lowers (take b.channels b.ranges); upper = uppers (take b.channels b.ranges); swept = b.swept; centre = b.centre }
+
+-- what an accepted range of the code holds
+abbrev pub ranged : Result Range Fault → Result (ℤ × ℤ) Fault
+ranged (Ok r) = Ok (r.lower, r.upper)
+ranged (Err e) = Err e
 
 -- what an accepted box of the code holds
 abbrev pub boxed : Result ChannelBox Fault → Result Box Fault

@@ -1,19 +1,20 @@
 // The box: channel ranges, the swept channel and its centre.
-ghost use Rattle.std.specs.Prelude.{◌≡◌, ℕ, ◌<◌, ◌≤◌, length, pos, ◌≤ℤ◌, slice_index_or};
+ghost use Rattle.std.specs.Prelude.{◌≡◌, ◌<◌, ◌≤◌, length, Some, ◌≤ℤ◌};
+ghost use Rattle.std.specs.List.{slice_get};
+ghost use Rattle.boxes.specs.declared.range.Range.{Range};
 
-// The ranges of 1 to 8 channels in counts. One channel is swept, and has a centre inside its range.
+use crate::range::Range;
+
+// The ranges of 1 to 8 channels. One channel is swept, and has a centre inside its range.
 #[derive(Clone, Copy)]
 pub struct ChannelBox {
+    // fixed memory: the first `channels` ranges are the box's
+    pub ranges: [Range; 8],
     pub channels: usize,
-    pub lower: [i32; 8],
-    pub upper: [i32; 8],
     pub swept: usize,
     pub centre: i32,
+    ghost whole: { length ranges ≡ 8 },
     ghost few: { channels ≤ 8 },
-    ghost lowers: { length lower ≡ 8 },
-    ghost uppers: { length upper ≡ 8 },
-    ghost ranges: { ((c : ℕ) → c < channels → slice_index_or lower c (pos 0) ≤ℤ slice_index_or upper c (pos 0)) },
     ghost inside: { swept < channels },
-    ghost from: { slice_index_or lower swept (pos 0) ≤ℤ centre },
-    ghost to: { centre ≤ℤ slice_index_or upper swept (pos 0) },
+    ghost centred: { (r : Range) → slice_get ranges swept ≡ Some r → (r.lower ≤ℤ centre) × (centre ≤ℤ r.upper) },
 }

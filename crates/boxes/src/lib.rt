@@ -3,5 +3,8 @@
 
 mod channels;
 mod opening;
+mod range;
 
 pub use channels::ChannelBox;
+pub use opening::count;
+pub use range::Range;

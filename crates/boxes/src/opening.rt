@@ -1,46 +1,39 @@
 // Making a box from lists of counts.
 ghost use Rattle.std.specs.Prelude.{◌≡◌};
 ghost use Rattle.boxes.specs.Boxes as boxes;
-ghost use Rattle.boxes.specs.Stored.{box_of, boxed};
+ghost use Rattle.boxes.specs.Stored.{box_of, boxed, ranged};
 
 use crate::channels::ChannelBox;
+use crate::range::Range;
 use fault::{Cause, Fault};
 
-fn count(n: i64, channel: usize) -> Result<i32, Fault>
-    ensures { result ≡ boxes.counted n channel }
+// A number as a count.
+pub fn count(n: i64, place: usize) -> Result<i32, Fault>
+    ensures { result ≡ boxes.counted n place }
 {
     if n < -1_073_741_823 || n > 1_073_741_823 {
-        return Err(Fault {
-            cause: Cause::Number,
-            place: channel,
-        });
+        return Err(Cause::Number.at(place));
     }
     Ok(n as i32)
 }
 
-fn range(lower: i64, upper: i64, channel: usize) -> Result<(i32, i32), Fault>
-    ensures { result ≡ boxes.range lower upper channel }
+fn range(lower: i64, upper: i64, channel: usize) -> Result<Range, Fault>
+    ensures { ranged result ≡ boxes.range lower upper channel }
 {
     let l = count(lower, channel)?;
     let u = count(upper, channel)?;
     if l > u {
-        return Err(Fault {
-            cause: Cause::Order,
-            place: channel,
-        });
+        return Err(Cause::Order.at(channel));
     }
-    Ok((l, u))
+    Ok(Range { lower: l, upper: u })
 }
 
-fn centred(lower: i32, upper: i32, centre: i64, channel: usize) -> Result<i32, Fault>
-    ensures { result ≡ boxes.centred lower upper centre channel }
+fn centred(range: Range, centre: i64, channel: usize) -> Result<i32, Fault>
+    ensures { result ≡ boxes.centred range.lower range.upper centre channel }
 {
     let x = count(centre, channel)?;
-    if x < lower || x > upper {
-        return Err(Fault {
-            cause: Cause::Centre,
-            place: channel,
-        });
+    if x < range.lower || x > range.upper {
+        return Err(Cause::Centre.at(channel));
     }
     Ok(x)
 }
@@ -51,9 +44,8 @@ impl ChannelBox {
         ensures { box_of result ≡ boxes.blank_box }
     {
         ChannelBox {
+            ranges: [Range { lower: 0, upper: 0 }; 8],
             channels: 1,
-            lower: [0; 8],
-            upper: [0; 8],
             swept: 0,
             centre: 0,
         }
@@ -70,29 +62,19 @@ impl ChannelBox {
     {
         let channels = lower.len();
         if channels == 0 || channels > 8 || channels != upper.len() {
-            return Err(Fault {
-                cause: Cause::Channels,
-                place: 0,
-            });
+            return Err(Cause::Channels.at(0));
         }
-        let mut lowers = [0; 8];
-        let mut uppers = [0; 8];
+        let mut ranges = [Range { lower: 0, upper: 0 }; 8];
         for c in 0..channels {
-            let (l, u) = range(lower[c], upper[c], c)?;
-            lowers[c] = l;
-            uppers[c] = u;
+            ranges[c] = range(lower[c], upper[c], c)?;
         }
         if swept >= channels {
-            return Err(Fault {
-                cause: Cause::NoChannel,
-                place: swept,
-            });
+            return Err(Cause::NoChannel.at(swept));
         }
-        let centre = centred(lowers[swept], uppers[swept], centre, swept)?;
+        let centre = centred(ranges[swept], centre, swept)?;
         Ok(ChannelBox {
+            ranges,
             channels,
-            lower: lowers,
-            upper: uppers,
             swept,
             centre,
         })

@@ -1,11 +1,11 @@
 // Making the record of a line.
 ghost use Rattle.std.specs.Prelude.{◌≡◌};
 ghost use Rattle.boxes.specs.Stored.{box_of};
-ghost use Rattle.rule.specs.Lent.{lent, lent_two, lent_three};
+ghost use Rattle.rule.specs.Lent.{lent, lent_two};
 ghost use Rattle.rule.specs.Records.{RecordsTrue};
 ghost use Rattle.rule.specs.Rule as rules;
 
-use boxes::ChannelBox;
+use boxes::{ChannelBox, Range, count};
 use curve::{Magnitude, Square, lift};
 use fault::{Cause, Fault};
 use kind::NumberKind;
@@ -16,23 +16,18 @@ use slope::{Record, branch, difference, greater, lesser, present, still, sum, sw
 use span::Span;
 
 // The record of a range of counts that stays whole.
-fn still_range<K: NumberKind>(lower: i32, upper: i32, place: usize) -> Result<Record<K>, Fault>
-    ensures { result ≡ rules.still_range K.NumberKind.model lower upper place }
+fn still_range<K: NumberKind>(range: Range, place: usize) -> Result<Record<K>, Fault>
+    ensures { result ≡ rules.still_range K.NumberKind.model range.lower range.upper place }
 {
-    let x = present(Span::of_counts(lower, upper), place)?;
+    let x = present(Span::of_counts(range.lower, range.upper), place)?;
     Ok(still(x))
 }
 
 // The record of a range of counts that is swept about a centre.
-fn swept_range<K: NumberKind>(
-    lower: i32,
-    upper: i32,
-    centre: i32,
-    place: usize,
-) -> Result<Record<K>, Fault>
-    ensures { result ≡ rules.swept_range K.NumberKind.model lower upper centre place }
+fn swept_range<K: NumberKind>(range: Range, centre: i32, place: usize) -> Result<Record<K>, Fault>
+    ensures { result ≡ rules.swept_range K.NumberKind.model range.lower range.upper centre place }
 {
-    let x = present(Span::of_counts(lower, upper), place)?;
+    let x = present(Span::of_counts(range.lower, range.upper), place)?;
     let x0 = present(Span::of_counts(centre, centre), place)?;
     Ok(swept(x, x0))
 }
@@ -41,42 +36,27 @@ fn channel<K: NumberKind>(b: &ChannelBox, c: usize, place: usize) -> Result<Reco
     ensures { result ≡ rules.channel K.NumberKind.model (box_of b.now) c place }
 {
     if c >= b.channels {
-        return Err(Fault {
-            cause: Cause::NoChannel,
-            place,
-        });
+        return Err(Cause::NoChannel.at(place));
     }
-    let (lower, upper) = (b.lower[c], b.upper[c]);
+    let range = b.ranges[c];
     if c == b.swept {
-        swept_range(lower, upper, b.centre, place)
+        swept_range(range, b.centre, place)
     } else {
-        still_range(lower, upper, place)
+        still_range(range, place)
     }
 }
 
 fn constant<K: NumberKind>(n: i64, place: usize) -> Result<Record<K>, Fault>
     ensures { result ≡ rules.constant K.NumberKind.model n place }
 {
-    if n < -1_073_741_823 || n > 1_073_741_823 {
-        return Err(Fault {
-            cause: Cause::Number,
-            place,
-        });
-    }
-    still_range(n as i32, n as i32, place)
+    let n = count(n, place)?;
+    still_range(Range { lower: n, upper: n }, place)
 }
 
 fn operand<K: NumberKind>(earlier: &[Record<K>], l: usize) -> Result<&Record<K>, Fault>
     ensures { lent result ≡ rules.operand earlier.now l }
 {
-    if l < earlier.len() {
-        Ok(&earlier[l])
-    } else {
-        Err(Fault {
-            cause: Cause::Operand,
-            place: earlier.len(),
-        })
-    }
+    earlier.get(l).ok_or(Cause::Operand.at(earlier.len()))
 }
 
 fn two<K: NumberKind>(
@@ -89,20 +69,6 @@ fn two<K: NumberKind>(
     let p = operand(earlier, l)?;
     let q = operand(earlier, r)?;
     Ok((p, q))
-}
-
-fn all_three<K: NumberKind>(
-    earlier: &[Record<K>],
-    s: usize,
-    q: usize,
-    r: usize,
-) -> Result<(&Record<K>, &Record<K>, &Record<K>), Fault>
-    ensures { lent_three result ≡ rules.all_three earlier.now s q r }
-{
-    let s = operand(earlier, s)?;
-    let q = operand(earlier, q)?;
-    let r = operand(earlier, r)?;
-    Ok((s, q, r))
 }
 
 fn record_steps<K: NumberKind>(
@@ -143,7 +109,8 @@ fn record_steps<K: NumberKind>(
             Ok(lesser(p, q))
         }
         Line::Branch(s, q, r) => {
-            let (s, q, r) = all_three(earlier, s, q, r)?;
+            let s = operand(earlier, s)?;
+            let (q, r) = two(earlier, q, r)?;
             Ok(branch(s, q, r))
         }
     }

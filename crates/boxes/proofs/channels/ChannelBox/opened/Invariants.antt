@@ -2,4 +2,4 @@ use Rattle.boxes.proofs.Judged.{Judged}
 use Rattle.boxes.proofs.channels.ChannelBox.opened.Given as goal
 
 abbrev pub invariant-loop-c : goal.invariant-loop-c
-invariant-loop-c l = Judged l.lower l.upper l.lowers l.uppers l.c
+invariant-loop-c l = Judged l.lower l.upper l.ranges l.c
