@@ -10,6 +10,14 @@ use Rattle.slope.specs.Rules.{given}
 pub exit : {X Y : Type 0} (r : Result Y Fault) (e : Fault) (F : Result X Fault) (f : X → Result Y Fault) → IsErrAnd r (λ y. y ≡ e) → Err e ≡ F → r ≡ after F f
 exit r e F f b q = let p = err_from_is_err_and r b in p.1 ∙ ap Err p.2 ∙ ap (λ o. after o f) q
 
+-- three steps, the last two together
+pub last_two : {X Y Z V : Type 0} (f : X × Y × Z → Result V Fault) (x : Result X Fault) (y : Result Y Fault) (z : Result Z Fault)
+    → after x (λ a. after {X = Y × Z} (after y (λ b. after z (λ c. Ok (b, c)))) (λ p. f (a, p.0, p.1))) ≡ after (after x (λ a. after y (λ b. after z (λ c. Ok (a, b, c))))) f
+last_two f (Err e) y z = refl
+last_two f (Ok a) (Err e) z = refl
+last_two f (Ok a) (Ok b) (Err e) = refl
+last_two f (Ok a) (Ok b) (Ok c) = refl
+
 module _ {X Y : Type 0} (place : ℕ) (f : X → Option Y) where
   -- a step that is there goes on
   pub given_on : (o : Option X) (x : X) → given place o ≡ Ok x → given place (o >>= f) ≡ given place (f x)

@@ -1,11 +1,11 @@
 -- What the record of a channel comes to, case by case.
-use Rattle.std.proofs.Common.{◌≡◌, ℕ, cond, eqb, ℤ, IsErrAnd, Some, None, Ok, Err, Option, Result, sym, ap, ◌∙◌, ap₂}
+use Rattle.std.proofs.Common.{◌≡◌, ℕ, cond, eqb, ℤ, IsErrAnd, Some, Ok, Err, Option, Result, sym, ap, ◌∙◌, ap₂}
 use Rattle.std.proofs.lemmas.Result.{err_from_is_err_and}
 use Rattle.std.proofs.lemmas.Bool.{eq-eqb, ne_eqb}
 use Rattle.std.specs.List.{slice_get}
 use Rattle.boxes.specs.Boxes.{Box}
 use Rattle.exact.specs.Optional.{◌>>=◌}
-use Rattle.fault.specs.Refusals.{after, found, refused}
+use Rattle.fault.specs.Refusals.{after, found}
 use Rattle.fault.specs.declared.fault.Cause.TheVariants.{NoChannel}
 use Rattle.fault.specs.declared.fault.Fault.{Fault}
 use Rattle.kind.specs.Model.{Model}
@@ -27,20 +27,15 @@ module _ {K : Type 0} (m : Model K) where
       ∙ ap₂ (λ u v. given place (u >>= (λ x. v >>= (λ x0. Some (swept m x x0))))) (i ∙ ap₂ (of_counts m) l u) (i0 ∙ ap (λ z. of_counts m z z) n)
 
   module _ (b : Box) (c place : ℕ) where
-    pub no_channel : slice_get b.lower c ≡ None → refused NoChannel place ≡ channel m b c place
-    no_channel q = ap (λ o. after (found NoChannel place o) (λ lower. after (found NoChannel place (slice_get b.upper c)) (λ upper.
-        cond (eqb c b.swept) (swept_range m lower upper b.centre place) (still_range m lower upper place)))) (sym q)
-
     module _ (l u : ℤ) (p : slice_get b.lower c ≡ Some l) (q : slice_get b.upper c ≡ Some u) where
       there : channel m b c place ≡ cond (eqb c b.swept) (swept_range m l u b.centre place) (still_range m l u place)
       there = ap₂ (λ o n. after (found NoChannel place o) (λ lower. after (found NoChannel place n) (λ upper.
           cond (eqb c b.swept) (swept_range m lower upper b.centre place) (still_range m lower upper place)))) p q
 
-      module _ {r : Result (Record K) Fault} {l' u' : ℤ} (low : l' ≡ l) (high : u' ≡ u) where
-        pub the_swept : {x0 : ℤ} → x0 ≡ b.centre → r ≡ swept_range m l' u' x0 place → c ≡ b.swept → r ≡ channel m b c place
-        the_swept k h e = h ∙ ap (λ z. swept_range m l' u' z place) k ∙ ap₂ (λ x y. swept_range m x y b.centre place) low high
+      module _ {r : Result (Record K) Fault} where
+        pub the_swept : {x0 : ℤ} → x0 ≡ b.centre → r ≡ swept_range m l u x0 place → c ≡ b.swept → r ≡ channel m b c place
+        the_swept k h e = h ∙ ap (λ z. swept_range m l u z place) k
             ∙ sym (there ∙ ap (λ k. cond k (swept_range m l u b.centre place) (still_range m l u place)) (eq-eqb _ _ e))
 
-        pub another : r ≡ still_range m l' u' place → (c ≡ b.swept → ⊥) → r ≡ channel m b c place
-        another h n = h ∙ ap₂ (λ x y. still_range m x y place) low high
-            ∙ sym (there ∙ ap (λ k. cond k (swept_range m l u b.centre place) (still_range m l u place)) (ne_eqb _ _ n))
+        pub another : r ≡ still_range m l u place → (c ≡ b.swept → ⊥) → r ≡ channel m b c place
+        another h n = h ∙ sym (there ∙ ap (λ k. cond k (swept_range m l u b.centre place) (still_range m l u place)) (ne_eqb _ _ n))

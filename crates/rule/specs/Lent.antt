@@ -11,7 +11,3 @@ module _ {R : Type 0} where
   abbrev pub lent_two : Result (Bor R × Bor R) Fault → Result (R × R) Fault
   lent_two (Ok p) = Ok (p.0.now, p.1.now)
   lent_two (Err e) = Err e
-
-  abbrev pub lent_three : Result (Bor R × Bor R × Bor R) Fault → Result (R × R × R) Fault
-  lent_three (Ok p) = Ok (p.0.now, p.1.now, p.2.now)
-  lent_three (Err e) = Err e

@@ -1,7 +1,9 @@
-use Rattle.std.proofs.Common.{sym, ap, ◌∙◌}
+use Rattle.std.proofs.Common.{Ok, sym, ap, ◌∙◌}
 use Rattle.boxes.specs.Stored.{box_of}
-use Rattle.rule.proofs.Exits.{exit}
-use Rattle.rule.specs.Rule.{rule}
+use Rattle.fault.specs.Refusals.{after}
+use Rattle.slope.specs.Rules.{branch}
+use Rattle.rule.proofs.Exits.{exit, last_two}
+use Rattle.rule.specs.Rule.{operand, rule, two}
 use Rattle.rule.proofs.records.record_steps.Goals as goal
 
 pub returns-in_err-p-in-Sum : goal.returns-in_err-p-in-Sum
@@ -29,4 +31,14 @@ pub returns-in_err-p-in-Lesser : goal.returns-in_err-p-in-Lesser
 returns-in_err-p-in-Lesser g c = exit _ _ _ _ c.from_residual-in_err-p-in-Lesser.ensures.1 c.in_err-p-in-Lesser.ensures ∙ ap (rule g.K.NumberKind.model (box_of c.args.b.now) c.args.earlier.now) (sym c.in-Lesser.is)
 
 pub returns-in_err-s-in-Branch : goal.returns-in_err-s-in-Branch
-returns-in_err-s-in-Branch g c = exit _ _ _ _ c.from_residual-in_err-s-in-Branch.ensures.1 c.in_err-s-in-Branch.ensures ∙ ap (rule g.K.NumberKind.model (box_of c.args.b.now) c.args.earlier.now) (sym c.in-Branch.is)
+returns-in_err-s-in-Branch g c = let rs = c.args.earlier.now in
+    exit _ _ _ (λ s. after (two rs c.in-Branch.q c.in-Branch.r) (λ p. Ok (branch g.K.NumberKind.model s p.0 p.1))) c.from_residual-in_err-s-in-Branch.ensures.1 c.in_err-s-in-Branch.ensures
+    ∙ last_two (λ p. Ok (branch g.K.NumberKind.model p.0 p.1 p.2)) (operand rs c.in-Branch.s) (operand rs c.in-Branch.q) (operand rs c.in-Branch.r)
+    ∙ ap (rule g.K.NumberKind.model (box_of c.args.b.now) rs) (sym c.in-Branch.is)
+
+pub returns-in_err-q-in-Branch : goal.returns-in_err-q-in-Branch
+returns-in_err-q-in-Branch g c = let rs = c.args.earlier.now in
+    exit _ _ _ (λ p. Ok (branch g.K.NumberKind.model c.in_ok-s-in-Branch.s.now p.0 p.1)) c.from_residual-in_err-q-in-Branch.ensures.1 c.in_err-q-in-Branch.ensures
+    ∙ ap (λ o. after o (λ s. after (two rs c.in-Branch.q c.in-Branch.r) (λ p. Ok (branch g.K.NumberKind.model s p.0 p.1)))) c.in_ok-s-in-Branch.ensures
+    ∙ last_two (λ p. Ok (branch g.K.NumberKind.model p.0 p.1 p.2)) (operand rs c.in-Branch.s) (operand rs c.in-Branch.q) (operand rs c.in-Branch.r)
+    ∙ ap (rule g.K.NumberKind.model (box_of c.args.b.now) rs) (sym c.in-Branch.is)
