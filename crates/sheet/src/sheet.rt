@@ -15,6 +15,7 @@ mod writing;
 #[derive(Drop)]
 pub struct Sheet {
     over: ChannelBox,
+    // fixed memory: a table with the number of its lines that are held
     lines: [Line; 64],
     held: usize,
     ghost whole: { length lines ≡ 64 },

@@ -25,16 +25,10 @@ impl Sheet {
         ensures { result ≡ calls.next K.NumberKind.model (contents self.now) working.now line }
     {
         if working.len() < 64 {
-            return Err(Fault {
-                cause: Cause::Lines,
-                place: 0,
-            });
+            return Err(Cause::Lines.at(0));
         }
         if self.held == 64 {
-            return Err(Fault {
-                cause: Cause::Full,
-                place: 64,
-            });
+            return Err(Cause::Full.at(64));
         }
         record_of(&self.over, &working[..self.held], line)
     }

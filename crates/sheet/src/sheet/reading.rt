@@ -65,16 +65,10 @@ impl Sheet {
         ensures records { working.new ≡ overlaid (read_onto K.NumberKind.model (contents self.old) working.old bytes.now).records working.old }
     {
         if working.len() < 64 {
-            return Err(Fault {
-                cause: Cause::Lines,
-                place: 0,
-            });
+            return Err(Cause::Lines.at(0));
         }
         if self.held > 0 {
-            return Err(Fault {
-                cause: Cause::NotEmpty,
-                place: 0,
-            });
+            return Err(Cause::NotEmpty.at(0));
         }
         self.fill(working, bytes)
     }

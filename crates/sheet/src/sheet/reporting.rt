@@ -15,16 +15,10 @@ impl Sheet {
         ensures { result ≡ calls.report K.NumberKind.model (contents self.now) working.now line }
     {
         if working.len() < 64 {
-            return Err(Fault {
-                cause: Cause::Lines,
-                place: 0,
-            });
+            return Err(Cause::Lines.at(0));
         }
         if line >= self.held {
-            return Err(Fault {
-                cause: Cause::NoLine,
-                place: line,
-            });
+            return Err(Cause::NoLine.at(line));
         }
         Ok(report_of(&self.over, &working[line]))
     }

@@ -13,10 +13,7 @@ impl Sheet {
         ensures left { contents self.new ≡ shortened (contents self.old) }
     {
         if self.held == 0 {
-            return Err(Fault {
-                cause: Cause::NoLine,
-                place: 0,
-            });
+            return Err(Cause::NoLine.at(0));
         }
         self.held -= 1;
         Ok(())

@@ -1,6 +1,6 @@
 use Rattle.std.proofs.Common.{length, arith}
 use Rattle.sheet.proofs.Added.{next_room, refused_answer, refused_records, refused_sheet}
-use Rattle.sheet.proofs.Held.{held_length}
+use Rattle.sheet.proofs.Held.{held_is}
 use Rattle.sheet.specs.Contents.{contents}
 use Rattle.sheet.proofs.sheet.Sheet.add.Goals as goal
 
@@ -15,5 +15,5 @@ returns-in_err-made g c = let s = contents c.args.self.now in
 pub keep-requires : goal.keep-requires
 keep-requires g c = let s = c.args.self.now in
     let p = next_room g.K.NumberKind.model (contents s) c.args.working.now c.args.line c.in_ok-made.ensures in
-    let k = held_length s.held s.lines (omega (arith, s.few, s.whole)) in
+    let k = held_is s in
     omega (arith, p.0, k, s.few, p.1)

@@ -1,5 +1,5 @@
-use Rattle.std.proofs.Common.{arith}
-use Rattle.sheet.proofs.Held.{held_length}
+use Rattle.std.proofs.Common.{Err, ap, ◌∙◌, arith}
+use Rattle.sheet.proofs.Held.{held_is}
 use Rattle.sheet.proofs.Reported.{not_held, of_held}
 use Rattle.sheet.specs.Contents.{contents}
 use Rattle.sheet.proofs.sheet.Sheet.report.Goals as goal
@@ -7,11 +7,11 @@ use Rattle.sheet.proofs.sheet.Sheet.report.Goals as goal
 pub returns-then-line-self : goal.returns-then-line-self
 returns-then-line-self g c =
     let s = c.args.self.now in
-    let l = held_length s.held s.lines (omega (arith, s.few, s.whole)) in
-    not_held g.K.NumberKind.model (contents s) c.args.working.now c.args.line c.if-working-lt64.false (omega (arith, l, c.if-line-self.true))
+    let l = held_is s in
+    ap Err c.at-then-line-self.ensures ∙ not_held g.K.NumberKind.model (contents s) c.args.working.now c.args.line c.if-working-lt64.false (omega (arith, l, c.if-line-self.true))
 
 pub returns : goal.returns
 returns g c =
     let s = c.args.self.now in
-    let l = held_length s.held s.lines (omega (arith, s.few, s.whole)) in
+    let l = held_is s in
     of_held g.K.NumberKind.model (contents s) c.args.working.now c.args.line c.if-working-lt64.false c.index-working-line.result (omega (arith, l, c.if-line-self.false)) (omega (arith, l, s.few)) c.index-working-line.is c.report_of.ensures.value
