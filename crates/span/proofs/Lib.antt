@@ -6,3 +6,4 @@ pub mod MagnitudeNarrow
 pub mod Unique
 pub mod Enclosing
 pub mod Nested
+pub mod Lawful

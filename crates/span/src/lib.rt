@@ -3,6 +3,7 @@
 
 mod curves;
 mod ends;
+mod hulls;
 mod products;
 mod quotients;
 mod span;

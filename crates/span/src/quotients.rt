@@ -14,7 +14,7 @@ fn ratios<K: NumberKind>(a: K, b: K, c: K, d: K) -> Option<Span<K>>
     ends(a.quotient_below(b), c.quotient_above(d))
 }
 
-// divisors above 0
+// divisors above 0 (the mirror image below is no shorter by negated spans)
 fn quotient_up<K: NumberKind>(s: Span<K>, t: Span<K>) -> Option<Span<K>>
     ensures { result ≡ spans.quotient_up K.NumberKind.model s t }
 {
@@ -32,24 +32,18 @@ fn quotient_down<K: NumberKind>(s: Span<K>, t: Span<K>) -> Option<Span<K>>
     ratios(s.upper, low, s.lower, high)
 }
 
-fn quotient_ends<K: NumberKind>(s: Span<K>, t: Span<K>) -> Option<Span<K>>
-    ensures { result ≡ spans.quotient K.NumberKind.model s t }
-{
-    if !to_zero(t.lower) {
-        quotient_up(s, t)
-    } else if from_zero(t.upper) {
-        None
-    } else {
-        quotient_down(s, t)
-    }
-}
-
 impl<K: NumberKind> Span<K> {
     // Absent also where the divisor holds 0.
     pub fn quotient(self, other: Span<K>) -> Option<Span<K>>
         ensures value { result ≡ spans.quotient K.NumberKind.model self other }
         ensures narrowest { QuotientLaw K.NumberKind.model self other result }
     {
-        quotient_ends(self, other)
+        if !to_zero(other.lower) {
+            quotient_up(self, other)
+        } else if from_zero(other.upper) {
+            None
+        } else {
+            quotient_down(self, other)
+        }
     }
 }

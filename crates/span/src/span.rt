@@ -1,6 +1,7 @@
 // A span of a kind's marks.
 ghost use Rattle.std.specs.Prelude.{◌≡◌};
 ghost use Rattle.span.specs.Spans as spans;
+ghost use Rattle.span.specs.Laws.{CountsLaw};
 
 use kind::NumberKind;
 
@@ -19,4 +20,14 @@ pub fn ends<K: NumberKind>(lower: Option<K>, upper: Option<K>) -> Option<Span<K>
         lower: lower?,
         upper: upper?,
     })
+}
+
+impl<K: NumberKind> Span<K> {
+    // The narrowest span over a range of counts.
+    pub fn of_counts(lower: i32, upper: i32) -> Option<Span<K>>
+        ensures value { result ≡ spans.of_counts K.NumberKind.model lower upper }
+        ensures narrowest { CountsLaw K.NumberKind.model lower upper result }
+    {
+        ends(K::count_below(lower), K::count_above(upper))
+    }
 }

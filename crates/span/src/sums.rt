@@ -6,30 +6,24 @@ ghost use Rattle.span.specs.Laws.{SumLaw, DifferenceLaw};
 use crate::span::{Span, ends};
 use kind::NumberKind;
 
-fn sum_ends<K: NumberKind>(s: Span<K>, t: Span<K>) -> Option<Span<K>>
-    ensures { result ≡ spans.sum K.NumberKind.model s t }
-{
-    ends(s.lower.sum_below(t.lower), s.upper.sum_above(t.upper))
-}
-
-fn difference_ends<K: NumberKind>(s: Span<K>, t: Span<K>) -> Option<Span<K>>
-    ensures { result ≡ spans.difference K.NumberKind.model s t }
-{
-    sum_ends(s, t.negated())
-}
-
 impl<K: NumberKind> Span<K> {
+    #[tactic(auto, using(crate::proofs::Lawful::sum_law))]
     pub fn sum(self, other: Span<K>) -> Option<Span<K>>
         ensures value { result ≡ spans.sum K.NumberKind.model self other }
         ensures narrowest { SumLaw K.NumberKind.model self other result }
     {
-        sum_ends(self, other)
+        ends(
+            self.lower.sum_below(other.lower),
+            self.upper.sum_above(other.upper),
+        )
     }
 
+    // The sum with the negative.
+    #[tactic(auto, using(crate::proofs::Lawful::difference_law))]
     pub fn difference(self, other: Span<K>) -> Option<Span<K>>
         ensures value { result ≡ spans.difference K.NumberKind.model self other }
         ensures narrowest { DifferenceLaw K.NumberKind.model self other result }
     {
-        difference_ends(self, other)
+        self.sum(other.negated())
     }
 }

@@ -1,10 +1,6 @@
-use Rattle.std.proofs.Common.{sym, subst}
-use Rattle.span.proofs.SumNarrow.{hull_narrow}
-use Rattle.span.specs.Laws.{HullLaw}
+use Rattle.std.proofs.Common.{rules}
+use Rattle.span.proofs.Lawful.{hull_law}
 use Rattle.span.proofs.span.Span.hull.Goals as goal
 
-pub returns : goal.returns
-returns g c = record {
-  value = c.hull_ends.ensures;
-  narrowest = subst (HullLaw g.K.NumberKind.model c.args.self c.args.other) (sym c.hull_ends.ensures) (hull_narrow g.K.NumberKind.model g.met.K.NumberKind.rules c.args.self c.args.other);
-}
+pub returns-clause-narrowest : goal.returns-clause-narrowest
+returns-clause-narrowest g c = hull_law g.K.NumberKind.model g.met.K.NumberKind.rules _ _ _ (search rules)

@@ -1,10 +1,12 @@
-use Rattle.std.proofs.Common.{sym, subst}
-use Rattle.span.proofs.MagnitudeNarrow.{magnitude_narrow}
-use Rattle.span.specs.Laws.{MagnitudeLaw}
+use Rattle.std.proofs.Common.{rules}
+use Rattle.span.proofs.Lawful.{magnitude_law}
 use Rattle.span.proofs.span.Span.magnitude.Goals as goal
 
-pub returns : goal.returns
-returns g c = record {
-  value = c.magnitude_ends.ensures;
-  narrowest = subst (MagnitudeLaw g.K.NumberKind.model c.args.self) (sym c.magnitude_ends.ensures) (magnitude_narrow g.K.NumberKind.model g.met.K.NumberKind.rules c.args.self);
-}
+pub returns-then-from_zero-clause-narrowest : goal.returns-then-from_zero-clause-narrowest
+returns-then-from_zero-clause-narrowest g c = magnitude_law g.K.NumberKind.model g.met.K.NumberKind.rules _ _ (search rules)
+
+pub returns-then-to_zero-clause-narrowest : goal.returns-then-to_zero-clause-narrowest
+returns-then-to_zero-clause-narrowest g c = magnitude_law g.K.NumberKind.model g.met.K.NumberKind.rules _ _ (search rules)
+
+pub returns-else-to_zero-clause-narrowest : goal.returns-else-to_zero-clause-narrowest
+returns-else-to_zero-clause-narrowest g c = magnitude_law g.K.NumberKind.model g.met.K.NumberKind.rules _ _ (search rules)

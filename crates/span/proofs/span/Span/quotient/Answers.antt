@@ -1,10 +1,12 @@
-use Rattle.std.proofs.Common.{sym, subst}
-use Rattle.span.proofs.QuotientNarrow.{quotient_law}
-use Rattle.span.specs.Laws.{QuotientLaw}
+use Rattle.std.proofs.Common.{rules}
+use Rattle.span.proofs.Lawful.{quotient_law}
 use Rattle.span.proofs.span.Span.quotient.Goals as goal
 
-pub returns : goal.returns
-returns g c = record {
-  value = c.quotient_ends.ensures;
-  narrowest = subst (QuotientLaw g.K.NumberKind.model c.args.self c.args.other) (sym c.quotient_ends.ensures) (quotient_law g.K.NumberKind.model g.met.K.NumberKind.rules c.args.self c.args.other);
-}
+pub returns-then-not-to_zero-clause-narrowest : goal.returns-then-not-to_zero-clause-narrowest
+returns-then-not-to_zero-clause-narrowest g c = quotient_law g.K.NumberKind.model g.met.K.NumberKind.rules _ _ _ (search rules)
+
+pub returns-then-from_zero-clause-narrowest : goal.returns-then-from_zero-clause-narrowest
+returns-then-from_zero-clause-narrowest g c = quotient_law g.K.NumberKind.model g.met.K.NumberKind.rules _ _ _ (search rules)
+
+pub returns-else-from_zero-clause-narrowest : goal.returns-else-from_zero-clause-narrowest
+returns-else-from_zero-clause-narrowest g c = quotient_law g.K.NumberKind.model g.met.K.NumberKind.rules _ _ _ (search rules)

@@ -1,10 +1,6 @@
-use Rattle.std.proofs.Common.{sym, subst}
-use Rattle.span.proofs.MagnitudeNarrow.{square_narrow}
-use Rattle.span.specs.Laws.{SquareLaw}
+use Rattle.std.proofs.Common.{rules}
+use Rattle.span.proofs.Lawful.{square_law}
 use Rattle.span.proofs.span.Span.square.Goals as goal
 
-pub returns : goal.returns
-returns g c = record {
-  value = c.square_ends.ensures;
-  narrowest = subst (SquareLaw g.K.NumberKind.model c.args.self) (sym c.square_ends.ensures) (square_narrow g.K.NumberKind.model g.met.K.NumberKind.rules c.args.self);
-}
+pub returns-clause-narrowest : goal.returns-clause-narrowest
+returns-clause-narrowest g c = square_law g.K.NumberKind.model g.met.K.NumberKind.rules _ _ (search rules)
