@@ -1,7 +1,8 @@
 -- The lifting rule is true for every curve with the law.
-use Rattle.std.proofs.Common.{◌≡◌, ℕ, Some, Option}
+use Rattle.std.proofs.Common.{◌≡◌, ℕ, Some, Option, Result, sym, subst}
 use Rattle.exact.specs.Fraction.{Frac, ◌*F◌}
 use Rattle.exact.specs.Optional.{◌>>=◌}
+use Rattle.fault.specs.declared.fault.Fault.{Fault}
 use Rattle.kind.specs.Model.{Model, Rules}
 use Rattle.slope.proofs.Chains.{inner, ordered_u, ordered_u0, sloped, slopes_of, step, told}
 use Rattle.slope.specs.Curves.{Bends, Curved, lift, lift_slopes}
@@ -37,3 +38,7 @@ module _ {K : Type 0} (m : Model K) (rules : Rules m) (f : Frac → Frac) (image
           slopes_of m a b c (times a ea x.g_in S.a_in) (times b eb x.e_in S.b_in)
           (sum_in m rules _ _ c _ _ ec (times c1 ec1 x.g_in S.c_in) (times c3 ec3 (times c2 ec2 x.k_in S.a_in) S.b_in))
           (curve_slope x.e x.g x.k x.rise x.bend S.slope)))))))))
+
+  -- what equals a lift has its law
+  pub lift_law : (r : Result (Record K) Fault) → r ≡ given place (lift m image bend p) → Curved m f (image p.u) p r
+  lift_law r e = subst (Curved m f (image p.u) p) (sym e) lift_kept

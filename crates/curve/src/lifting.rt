@@ -59,21 +59,6 @@ fn lift_slopes<K: NumberKind>(u: Span<K>, u0: Span<K>, f: &Shape<K>, p: &Record<
     flat.sloped(a, b, c)
 }
 
-fn lift_steps<K: NumberKind, C: Curve<K>>(
-    curve: C,
-    p: &Record<K>,
-    place: usize,
-) -> Result<Record<K>, Fault>
-    ensures { result ≡ given place (curves.lift K.NumberKind.model C.Curve.image C.Curve.bend p.now) }
-{
-    let u = present(curve.values(p.u), place)?;
-    let u0 = present(curve.values(p.u0), place)?;
-    let Some(f) = curve.shape(p.u, p.u0) else {
-        return Ok(Record::flat(u, u0));
-    };
-    Ok(lift_slopes(u, u0, &f, p))
-}
-
 // The record of a curve's value.
 pub fn lift<K: NumberKind, C: Curve<K>>(
     curve: C,
@@ -83,5 +68,10 @@ pub fn lift<K: NumberKind, C: Curve<K>>(
     ensures value { result ≡ given place (curves.lift K.NumberKind.model C.Curve.image C.Curve.bend p.now) }
     ensures truth { Curved K.NumberKind.model C.Curve.exact (C.Curve.image p.now.u) p.now result }
 {
-    lift_steps(curve, p, place)
+    let u = present(curve.values(p.u), place)?;
+    let u0 = present(curve.values(p.u0), place)?;
+    let Some(f) = curve.shape(p.u, p.u0) else {
+        return Ok(Record::flat(u, u0));
+    };
+    Ok(lift_slopes(u, u0, &f, p))
 }

@@ -1,6 +1,7 @@
 -- The product of true records is true.
-use Rattle.std.proofs.Common.{◌≡◌, ℕ, Some, Option}
+use Rattle.std.proofs.Common.{◌≡◌, ℕ, Some, Option, Result, sym, subst}
 use Rattle.exact.specs.Fraction.{Frac, ◌*F◌, ◌+F◌}
+use Rattle.fault.specs.declared.fault.Fault.{Fault}
 use Rattle.kind.specs.Model.{Model, Rules}
 use Rattle.slope.proofs.Chains.{ordered_u, ordered_u0, sloped, slopes_of, step, told}
 use Rattle.slope.specs.Rules.{given, product, product_slopes}
@@ -41,3 +42,7 @@ module _ {K : Type 0} (m : Model K) (rules : Rules m) (place : ℕ) (p q : Recor
           (plus b eb (times b1 eb1 S.b_in tq.centre) (times b2 eb2 tp.centre T.b_in))
           (plus c ec (plus c12 ec12 (times c1 ec1 S.c_in tq.centre) (times c2 ec2 tp.here T.c_in)) (times c3 ec3 S.a_in T.b_in))
           (product_slope S.slope T.slope))))))))))))))
+
+  -- what equals a product has its law
+  pub product_law : (r : Result (Record K) Fault) → r ≡ given place (product m p q) → Kept m ◌*F◌ (spans.product m p.u q.u) p q r
+  product_law r e = subst (Kept m ◌*F◌ (spans.product m p.u q.u) p q) (sym e) product_kept

@@ -60,18 +60,6 @@ fn product_slopes<K: NumberKind>(u: Span<K>, u0: Span<K>, p: &Record<K>, q: &Rec
     flat.sloped(a, b, c)
 }
 
-fn product_steps<K: NumberKind>(
-    p: &Record<K>,
-    q: &Record<K>,
-    place: usize,
-) -> Result<Record<K>, Fault>
-    ensures { result ≡ given place (rules.product K.NumberKind.model p.now q.now) }
-{
-    let u = present(p.u.product(q.u), place)?;
-    let u0 = present(p.u0.product(q.u0), place)?;
-    Ok(product_slopes(u, u0, p, q))
-}
-
 // The record of a product.
 pub fn product<K: NumberKind>(
     p: &Record<K>,
@@ -81,5 +69,7 @@ pub fn product<K: NumberKind>(
     ensures value { result ≡ given place (rules.product K.NumberKind.model p.now q.now) }
     ensures truth { Kept K.NumberKind.model ◌*F◌ (spans.product K.NumberKind.model p.now.u q.now.u) p.now q.now result }
 {
-    product_steps(p, q, place)
+    let u = present(p.u.product(q.u), place)?;
+    let u0 = present(p.u0.product(q.u0), place)?;
+    Ok(product_slopes(u, u0, p, q))
 }

@@ -1,8 +1,9 @@
 -- The quotient of true records is true.
-use Rattle.std.proofs.Common.{◌≡◌, ℕ, Bool, true, false, cond, ◌&&◌, T, Some, None, Err, Option, sym, refl, subst}
+use Rattle.std.proofs.Common.{◌≡◌, ℕ, Bool, true, false, cond, ◌&&◌, T, Some, None, Err, Option, Result, sym, refl, subst}
 use Rattle.exact.proofs.Division.{divided}
 use Rattle.exact.specs.Fraction.{Frac, ◌*F◌, ◌-F◌, ◌≈◌, inv_F}
 use Rattle.fault.specs.declared.fault.Cause.TheVariants.{Divisor}
+use Rattle.fault.specs.declared.fault.Fault.{Fault}
 use Rattle.kind.specs.Model.{Model, Rules}
 use Rattle.slope.proofs.Chains.{ordered_u, ordered_u0, sloped, slopes_of, step, told}
 use Rattle.slope.specs.Rules.{given, quotient, quotient_slopes}
@@ -70,3 +71,7 @@ module _ {K : Type 0} (m : Model K) (rules : Rules m) (place : ℕ) (p q : Recor
       go : (b : Bool) → holds_zero m q.u ≡ b → Told m (spans.quotient m p.u q.u) h w w0 (cond b (Err (record { cause = Divisor; place = place })) (given place (quotient m p q)))
       go true e = absent (to_zero m q.u.lower) (from_zero m q.u.upper) _ _ e
       go false e = given_kept h u u0 v v0 w w0 ew ew0 tp tq
+
+  -- what equals a quotient has its law
+  pub quotient_law : (r : Result (Record K) Fault) → r ≡ refusing.divided m place p q → Divided m (spans.quotient m p.u q.u) p q r
+  quotient_law r e = subst (Divided m (spans.quotient m p.u q.u) p q) (sym e) quotient_kept

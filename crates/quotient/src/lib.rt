@@ -64,23 +64,7 @@ fn quotient_slopes<K: NumberKind>(
     flat.sloped(a, b, c)
 }
 
-// Refused first where the divisor's span over the box holds 0.
-fn quotient_steps<K: NumberKind>(
-    p: &Record<K>,
-    q: &Record<K>,
-    place: usize,
-) -> Result<Record<K>, Fault>
-    ensures { result ≡ divided K.NumberKind.model place p.now q.now }
-{
-    if q.u.holds_zero() {
-        return Err(Cause::Divisor.at(place));
-    }
-    let u = present(p.u.quotient(q.u), place)?;
-    let u0 = present(p.u0.quotient(q.u0), place)?;
-    Ok(quotient_slopes(u, u0, p, q))
-}
-
-// The record of a quotient.
+// The record of a quotient. Refused first where the divisor's span over the box holds 0.
 pub fn quotient<K: NumberKind>(
     p: &Record<K>,
     q: &Record<K>,
@@ -89,5 +73,10 @@ pub fn quotient<K: NumberKind>(
     ensures value { result ≡ divided K.NumberKind.model place p.now q.now }
     ensures truth { Divided K.NumberKind.model (spans.quotient K.NumberKind.model p.now.u q.now.u) p.now q.now result }
 {
-    quotient_steps(p, q, place)
+    if q.u.holds_zero() {
+        return Err(Cause::Divisor.at(place));
+    }
+    let u = present(p.u.quotient(q.u), place)?;
+    let u0 = present(p.u0.quotient(q.u0), place)?;
+    Ok(quotient_slopes(u, u0, p, q))
 }

@@ -1,5 +1,5 @@
 -- The greater, the lesser and the branch tell the truth.
-use Rattle.std.proofs.Common.{Option}
+use Rattle.std.proofs.Common.{◌≡◌, Option, sym, subst}
 use Rattle.exact.proofs.Extremes.{max_is_left, max_is_right, min_is_left, min_is_right}
 use Rattle.exact.proofs.Fractions.{≈_sym}
 use Rattle.exact.proofs.Order.{<≤, by_le, ≤F_of_≈, ≤F_trans}
@@ -93,3 +93,13 @@ module _ {K : Type 0} (m : Model K) (rules : Rules m) where
     where
       P : Record K → Type 0
       P x = True m x h (branch_F a u v) (branch_F a0 u0 v0)
+
+  -- ---- what equals a choice has its law
+  pub greater_law : (p q r : Record K) → r ≡ greater m p q → Chosen m max_F p q r
+  greater_law p q r e = subst (Chosen m max_F p q) (sym e) (greater_chosen p q)
+
+  pub lesser_law : (p q r : Record K) → r ≡ lesser m p q → Chosen m min_F p q r
+  lesser_law p q r e = subst (Chosen m min_F p q) (sym e) (lesser_chosen p q)
+
+  pub branch_law : (s q r x : Record K) → x ≡ branch m s q r → Branched m s q r x
+  branch_law s q r x e = subst (Branched m s q r) (sym e) (branch_kept s q r)

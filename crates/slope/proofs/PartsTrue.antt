@@ -1,5 +1,6 @@
 -- Channels, constants, sums and differences tell the truth.
-use Rattle.std.proofs.Common.{◌≡◌, ℕ, Some, Option}
+use Rattle.std.proofs.Common.{◌≡◌, ℕ, Some, Option, Result, sym, subst}
+use Rattle.fault.specs.declared.fault.Fault.{Fault}
 use Rattle.exact.proofs.Fractions.{≈_refl}
 use Rattle.exact.proofs.Ring.{x0}
 use Rattle.exact.specs.Fraction.{Frac, ◌+F◌, ◌-F◌, ◌≈◌}
@@ -74,3 +75,10 @@ module _ {K : Type 0} (m : Model K) (rules : Rules m) where
 
   pub difference_kept : (place : ℕ) (p q : Record K) → Kept m ◌-F◌ (spans.difference m p.u q.u) p q (given place (difference m p q))
   difference_kept = parts_kept ◌-F◌ (spans.difference m) (difference_in m rules) (λ s t s' t' w a b c d p q e. difference_nested m rules s t s' t' w a b c d p q e) (λ h u u0 v v0 au bu cu av bv cv s t. difference_slope s t)
+
+  -- ---- what equals a sum or a difference has its law
+  pub sum_law : (place : ℕ) (p q : Record K) (r : Result (Record K) Fault) → r ≡ given place (sum m p q) → Kept m ◌+F◌ (spans.sum m p.u q.u) p q r
+  sum_law place p q r e = subst (Kept m ◌+F◌ (spans.sum m p.u q.u) p q) (sym e) (sum_kept place p q)
+
+  pub difference_law : (place : ℕ) (p q : Record K) (r : Result (Record K) Fault) → r ≡ given place (difference m p q) → Kept m ◌-F◌ (spans.difference m p.u q.u) p q r
+  difference_law place p q r e = subst (Kept m ◌-F◌ (spans.difference m p.u q.u) p q) (sym e) (difference_kept place p q)

@@ -55,19 +55,13 @@ fn sum_slopes<K: NumberKind>(u: Span<K>, u0: Span<K>, p: &Record<K>, q: &Record<
     flat.sloped(a, b, c)
 }
 
-fn sum_steps<K: NumberKind>(p: &Record<K>, q: &Record<K>, place: usize) -> Result<Record<K>, Fault>
-    ensures { result ≡ given place (rules.sum K.NumberKind.model p.now q.now) }
-{
-    let u = present(p.u.sum(q.u), place)?;
-    let u0 = present(p.u0.sum(q.u0), place)?;
-    Ok(sum_slopes(u, u0, p, q))
-}
-
 pub fn sum<K: NumberKind>(p: &Record<K>, q: &Record<K>, place: usize) -> Result<Record<K>, Fault>
     ensures value { result ≡ given place (rules.sum K.NumberKind.model p.now q.now) }
     ensures truth { Kept K.NumberKind.model ◌+F◌ (spans.sum K.NumberKind.model p.now.u q.now.u) p.now q.now result }
 {
-    sum_steps(p, q, place)
+    let u = present(p.u.sum(q.u), place)?;
+    let u0 = present(p.u0.sum(q.u0), place)?;
+    Ok(sum_slopes(u, u0, p, q))
 }
 
 // The negative of a record, part by part.
@@ -86,16 +80,6 @@ fn negated<K: NumberKind>(p: &Record<K>) -> Record<K>
 }
 
 // The sum with the negative.
-fn difference_steps<K: NumberKind>(
-    p: &Record<K>,
-    q: &Record<K>,
-    place: usize,
-) -> Result<Record<K>, Fault>
-    ensures { result ≡ given place (rules.difference K.NumberKind.model p.now q.now) }
-{
-    sum_steps(p, &negated(q), place)
-}
-
 pub fn difference<K: NumberKind>(
     p: &Record<K>,
     q: &Record<K>,
@@ -104,5 +88,5 @@ pub fn difference<K: NumberKind>(
     ensures value { result ≡ given place (rules.difference K.NumberKind.model p.now q.now) }
     ensures truth { Kept K.NumberKind.model ◌-F◌ (spans.difference K.NumberKind.model p.now.u q.now.u) p.now q.now result }
 {
-    difference_steps(p, q, place)
+    sum(p, &negated(q), place)
 }

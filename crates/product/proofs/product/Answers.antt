@@ -1,13 +1,12 @@
-use Rattle.std.proofs.Common.{sym, subst}
-use Rattle.exact.specs.Fraction.{◌*F◌}
-use Rattle.slope.specs.Truth.{Kept}
-use Rattle.product.proofs.Kept.{product_kept}
+use Rattle.std.proofs.Common.{Ok, rules}
+use Rattle.product.proofs.Kept.{product_law}
 use Rattle.product.proofs.product.Goals as goal
-use Rattle.span.specs.Spans as spans
 
-pub returns : goal.returns
-returns g c = record {
-  value = c.product_steps.ensures;
-  truth = subst (Kept g.K.NumberKind.model ◌*F◌ (spans.product g.K.NumberKind.model c.args.p.now.u c.args.q.now.u) c.args.p.now c.args.q.now) (sym c.product_steps.ensures)
-      (product_kept g.K.NumberKind.model g.met.K.NumberKind.rules c.args.place c.args.p.now c.args.q.now);
-}
+pub returns-in_err-u-clause-truth : goal.returns-in_err-u-clause-truth
+returns-in_err-u-clause-truth g c = product_law g.K.NumberKind.model g.met.K.NumberKind.rules c.args.place c.args.p.now c.args.q.now _ (search rules)
+
+pub returns-in_err-u0-clause-truth : goal.returns-in_err-u0-clause-truth
+returns-in_err-u0-clause-truth g c = product_law g.K.NumberKind.model g.met.K.NumberKind.rules c.args.place c.args.p.now c.args.q.now _ (search rules)
+
+pub returns-clause-truth : goal.returns-clause-truth
+returns-clause-truth g c = product_law g.K.NumberKind.model g.met.K.NumberKind.rules c.args.place c.args.p.now c.args.q.now (Ok c.product_slopes.result) (search rules)

@@ -1,12 +1,15 @@
-use Rattle.std.proofs.Common.{sym, subst}
-use Rattle.slope.specs.Truth.{Divided}
-use Rattle.quotient.proofs.Kept.{quotient_kept}
+use Rattle.std.proofs.Common.{Ok, Err, rules}
+use Rattle.quotient.proofs.Kept.{quotient_law}
 use Rattle.quotient.proofs.quotient.Goals as goal
-use Rattle.span.specs.Spans as spans
 
-pub returns : goal.returns
-returns g c = record {
-  value = c.quotient_steps.ensures;
-  truth = subst (Divided g.K.NumberKind.model (spans.quotient g.K.NumberKind.model c.args.p.now.u c.args.q.now.u) c.args.p.now c.args.q.now) (sym c.quotient_steps.ensures)
-      (quotient_kept g.K.NumberKind.model g.met.K.NumberKind.rules c.args.place c.args.p.now c.args.q.now);
-}
+pub returns-then-holds_zero-clause-truth : goal.returns-then-holds_zero-clause-truth
+returns-then-holds_zero-clause-truth g c = quotient_law g.K.NumberKind.model g.met.K.NumberKind.rules c.args.place c.args.p.now c.args.q.now (Err c.at.result) (search rules)
+
+pub returns-in_err-u-clause-truth : goal.returns-in_err-u-clause-truth
+returns-in_err-u-clause-truth g c = quotient_law g.K.NumberKind.model g.met.K.NumberKind.rules c.args.place c.args.p.now c.args.q.now _ (search rules)
+
+pub returns-in_err-u0-clause-truth : goal.returns-in_err-u0-clause-truth
+returns-in_err-u0-clause-truth g c = quotient_law g.K.NumberKind.model g.met.K.NumberKind.rules c.args.place c.args.p.now c.args.q.now _ (search rules)
+
+pub returns-clause-truth : goal.returns-clause-truth
+returns-clause-truth g c = quotient_law g.K.NumberKind.model g.met.K.NumberKind.rules c.args.place c.args.p.now c.args.q.now (Ok c.quotient_slopes.result) (search rules)

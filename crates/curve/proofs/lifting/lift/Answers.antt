@@ -1,11 +1,12 @@
-use Rattle.std.proofs.Common.{sym, subst}
-use Rattle.slope.specs.Curves.{Curved}
-use Rattle.curve.proofs.Lifts.{lift_kept}
+use Rattle.std.proofs.Common.{Ok, rules}
+use Rattle.curve.proofs.Lifts.{lift_law}
 use Rattle.curve.proofs.lifting.lift.Goals as goal
 
-pub returns : goal.returns
-returns g c = record {
-  value = c.lift_steps.ensures;
-  truth = subst (Curved g.K.NumberKind.model g.C.Curve.exact (g.C.Curve.image c.args.p.now.u) c.args.p.now) (sym c.lift_steps.ensures)
-      (lift_kept g.K.NumberKind.model g.met.K.NumberKind.rules g.C.Curve.exact g.C.Curve.image g.C.Curve.bend g.met.C.Curve.bends c.args.place c.args.p.now);
-}
+pub returns-in_err-u0-clause-truth : goal.returns-in_err-u0-clause-truth
+returns-in_err-u0-clause-truth g c = lift_law g.K.NumberKind.model g.met.K.NumberKind.rules g.C.Curve.exact g.C.Curve.image g.C.Curve.bend g.met.C.Curve.bends c.args.place c.args.p.now _ (search rules)
+
+pub returns-in_default-clause-truth : goal.returns-in_default-clause-truth
+returns-in_default-clause-truth g c = lift_law g.K.NumberKind.model g.met.K.NumberKind.rules g.C.Curve.exact g.C.Curve.image g.C.Curve.bend g.met.C.Curve.bends c.args.place c.args.p.now (Ok c.flat.result) (search rules)
+
+pub returns-clause-truth : goal.returns-clause-truth
+returns-clause-truth g c = lift_law g.K.NumberKind.model g.met.K.NumberKind.rules g.C.Curve.exact g.C.Curve.image g.C.Curve.bend g.met.C.Curve.bends c.args.place c.args.p.now (Ok c.lift_slopes.result) (search rules)

@@ -1,11 +1,12 @@
-use Rattle.std.proofs.Common.{sym, subst}
-use Rattle.slope.proofs.ChoicesTrue.{branch_kept}
-use Rattle.slope.specs.Truth.{Branched}
+use Rattle.std.proofs.Common.{rules}
+use Rattle.slope.proofs.ChoicesTrue.{branch_law}
 use Rattle.slope.proofs.choices.branch.Goals as goal
 
-pub returns : goal.returns
-returns g c = record {
-  value = c.branch_steps.ensures;
-  truth = subst (Branched g.K.NumberKind.model c.args.s.now c.args.q.now c.args.r.now) (sym c.branch_steps.ensures)
-      (branch_kept g.K.NumberKind.model g.met.K.NumberKind.rules c.args.s.now c.args.q.now c.args.r.now);
-}
+pub returns-then-at_most-clause-truth : goal.returns-then-at_most-clause-truth
+returns-then-at_most-clause-truth g c = branch_law g.K.NumberKind.model g.met.K.NumberKind.rules _ _ _ _ (search rules)
+
+pub returns-then-at_most-2-clause-truth : goal.returns-then-at_most-2-clause-truth
+returns-then-at_most-2-clause-truth g c = branch_law g.K.NumberKind.model g.met.K.NumberKind.rules _ _ _ _ (search rules)
+
+pub returns-else-at_most-2-clause-truth : goal.returns-else-at_most-2-clause-truth
+returns-else-at_most-2-clause-truth g c = branch_law g.K.NumberKind.model g.met.K.NumberKind.rules _ _ _ _ (search rules)

@@ -1,12 +1,12 @@
-use Rattle.std.proofs.Common.{sym, subst}
-use Rattle.exact.specs.Fraction.{min_F}
-use Rattle.slope.proofs.ChoicesTrue.{lesser_chosen}
-use Rattle.slope.specs.Truth.{Chosen}
+use Rattle.std.proofs.Common.{rules}
+use Rattle.slope.proofs.ChoicesTrue.{lesser_law}
 use Rattle.slope.proofs.choices.lesser.Goals as goal
 
-pub returns : goal.returns
-returns g c = record {
-  value = c.lesser_steps.ensures;
-  truth = subst (Chosen g.K.NumberKind.model min_F c.args.p.now c.args.q.now) (sym c.lesser_steps.ensures)
-      (lesser_chosen g.K.NumberKind.model g.met.K.NumberKind.rules c.args.p.now c.args.q.now);
-}
+pub returns-then-clears-clause-truth : goal.returns-then-clears-clause-truth
+returns-then-clears-clause-truth g c = lesser_law g.K.NumberKind.model g.met.K.NumberKind.rules _ _ _ (search rules)
+
+pub returns-then-clears-2-clause-truth : goal.returns-then-clears-2-clause-truth
+returns-then-clears-2-clause-truth g c = lesser_law g.K.NumberKind.model g.met.K.NumberKind.rules _ _ _ (search rules)
+
+pub returns-else-clears-2-clause-truth : goal.returns-else-clears-2-clause-truth
+returns-else-clears-2-clause-truth g c = lesser_law g.K.NumberKind.model g.met.K.NumberKind.rules _ _ _ (search rules)

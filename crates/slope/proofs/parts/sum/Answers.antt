@@ -1,13 +1,12 @@
-use Rattle.std.proofs.Common.{sym, subst}
-use Rattle.exact.specs.Fraction.{◌+F◌}
-use Rattle.slope.proofs.PartsTrue.{sum_kept}
-use Rattle.slope.specs.Truth.{Kept}
+use Rattle.std.proofs.Common.{Ok, rules}
+use Rattle.slope.proofs.PartsTrue.{sum_law}
 use Rattle.slope.proofs.parts.sum.Goals as goal
-use Rattle.span.specs.Spans as spans
 
-pub returns : goal.returns
-returns g c = record {
-  value = c.sum_steps.ensures;
-  truth = subst (Kept g.K.NumberKind.model ◌+F◌ (spans.sum g.K.NumberKind.model c.args.p.now.u c.args.q.now.u) c.args.p.now c.args.q.now) (sym c.sum_steps.ensures)
-      (sum_kept g.K.NumberKind.model g.met.K.NumberKind.rules c.args.place c.args.p.now c.args.q.now);
-}
+pub returns-in_err-u-clause-truth : goal.returns-in_err-u-clause-truth
+returns-in_err-u-clause-truth g c = sum_law g.K.NumberKind.model g.met.K.NumberKind.rules c.args.place _ _ _ (search rules)
+
+pub returns-in_err-u0-clause-truth : goal.returns-in_err-u0-clause-truth
+returns-in_err-u0-clause-truth g c = sum_law g.K.NumberKind.model g.met.K.NumberKind.rules c.args.place _ _ _ (search rules)
+
+pub returns-clause-truth : goal.returns-clause-truth
+returns-clause-truth g c = sum_law g.K.NumberKind.model g.met.K.NumberKind.rules c.args.place c.args.p.now c.args.q.now (Ok c.sum_slopes.result) (search rules)
