@@ -43,6 +43,10 @@ plain_end {k} {k'} e s = ap (λ z. to_z w64 (of_z w64 z)) e ∙ plain k' s.0 s.1
     plain z a b = omega (arith, ints)
 
 module _ {K : Type 0} (m : Model K) (rules : Rules m) (b : Box) (r : Record K) where
+  -- what equals the range has its law
+  pub range_law : (s : Span K) → s ≡ range m b r → Covers m b r (Held m s)
+  range_law s e = subst (λ s. Covers m b r (Held m s)) (sym e) (λ x u u0 sweeps t. in_range m rules b r x u u0 sweeps t)
+
   pub covered : Covers m b r (Near (reported m b r))
   covered x u u0 s t = near m (range m b r) u (in_range m rules b r x u u0 s t)
 

@@ -13,21 +13,15 @@ use kind::NumberKind;
 use slope::Record;
 use span::Span;
 
-fn range<K: NumberKind>(b: &ChannelBox, r: &Record<K>) -> Span<K>
-    ensures { result ≡ reports.range K.NumberKind.model (box_of b.now) r.now }
-{
-    let Some(d) = distance(b) else {
-        return r.u;
-    };
-    narrowed(narrowed(r.u, first_form(r, d)), second_form(r, d))
-}
-
 // The intersection of U and of the forms that are there.
 pub fn range_of<K: NumberKind>(b: &ChannelBox, r: &Record<K>) -> Span<K>
     ensures value { result ≡ reports.range K.NumberKind.model (box_of b.now) r.now }
     ensures truth { Covers K.NumberKind.model (box_of b.now) r.now (Held K.NumberKind.model result) }
 {
-    range(b, r)
+    let Some(d) = distance(b) else {
+        return r.u;
+    };
+    narrowed(narrowed(r.u, first_form(r, d)), second_form(r, d))
 }
 
 // Half of a number, rounded down, also where it is negative.
@@ -56,6 +50,6 @@ pub fn report_of<K: NumberKind>(b: &ChannelBox, r: &Record<K>) -> Report
     ensures value { result ≡ reports.reported K.NumberKind.model (box_of b.now) r.now }
     ensures truth { Covers K.NumberKind.model (box_of b.now) r.now (Near result) }
 {
-    let range = range(b, r);
+    let range = range_of(b, r);
     between(range.lower.floor(), range.upper.ceiling())
 }

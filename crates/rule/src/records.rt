@@ -71,6 +71,7 @@ fn two<K: NumberKind>(
     Ok((p, q))
 }
 
+// Apart, since each of its many exits would have to name the theorem of `record_of` again.
 fn record_steps<K: NumberKind>(
     b: &ChannelBox,
     earlier: &[Record<K>],

@@ -55,24 +55,6 @@ impl Sheet {
         Ok(())
     }
 
-    fn read_steps<K: NumberKind>(
-        &mut self,
-        working: &mut [Record<K>],
-        bytes: &[u8],
-    ) -> Result<(), Fault>
-        ensures answer { result ≡ (read_onto K.NumberKind.model (contents self.old) working.old bytes.now).answer }
-        ensures sheet { contents self.new ≡ filled (contents self.old) result (read_onto K.NumberKind.model (contents self.old) working.old bytes.now).lines }
-        ensures records { working.new ≡ overlaid (read_onto K.NumberKind.model (contents self.old) working.old bytes.now).records working.old }
-    {
-        if working.len() < 64 {
-            return Err(Cause::Lines.at(0));
-        }
-        if self.held > 0 {
-            return Err(Cause::NotEmpty.at(0));
-        }
-        self.fill(working, bytes)
-    }
-
     // Adds all lines of a formula to an empty sheet. A refusal leaves no line, and the records made before it. Bytes that were read are
     // what their lines write, and what a sheet writes is read as its lines, with their records, by an empty sheet over the same box.
     pub fn read<K: NumberKind>(
@@ -85,6 +67,12 @@ impl Sheet {
         ensures records { working.new ≡ overlaid (read_onto K.NumberKind.model (contents self.old) working.old bytes.now).records working.old }
         ensures trips { ReadTrips K.NumberKind.model }
     {
-        self.read_steps(working, bytes)
+        if working.len() < 64 {
+            return Err(Cause::Lines.at(0));
+        }
+        if self.held > 0 {
+            return Err(Cause::NotEmpty.at(0));
+        }
+        self.fill(working, bytes)
     }
 }
