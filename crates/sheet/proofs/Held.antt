@@ -1,7 +1,13 @@
 -- The held lines of a sheet.
-use Rattle.std.proofs.Common.{◌≡◌, ◌+◌, ◌-◌, ◌<◌, [], ◌∷◌, ◌++◌, length, take, set, sym, ap, ◌∙◌, arith, length-take-le, take-take}
+use Rattle.std.proofs.Common.{◌≡◌, ◌+◌, ◌-◌, ◌<◌, ◌≤◌, Bool, true, false, cond, nat_lt, List, [], ◌∷◌, ◌++◌, length, take, set, Ok, Result, sym, refl, ap, ◌∙◌, arith, length-take-le, take-take}
+use Rattle.std.proofs.lemmas.Bool.{ltb-false}
+use Rattle.fault.proofs.Steps.{err_ok}
+use Rattle.fault.specs.Refusals.{refused}
+use Rattle.fault.specs.declared.fault.Cause.TheVariants.{Lines}
+use Rattle.fault.specs.declared.fault.Fault.{Fault}
 use Rattle.std.proofs.lemmas.List.{take_more_set}
 use Rattle.line.specs.declared.line.Line.{Line}
+use Rattle.sheet.specs.Calls.{enough}
 use Rattle.sheet.specs.Contents.{contents}
 use Rattle.sheet.specs.declared.sheet.Sheet.{Sheet}
 
@@ -14,3 +20,11 @@ module _ (s : Sheet) where
 
   pub one_more : (l : Line) → s.held < 64 → take (s.held + 1) (set s.lines s.held l) ≡ (contents s).lines ++ l ∷ []
   one_more l h = take_more_set s.lines s.held l (let w = s.whole in omega arith)
+
+-- enough lines are lent
+pub lent_enough : {R : Type 0} (w : List R) → Ok tt ≡ enough w → 64 ≤ length w
+lent_enough w e = go (nat_lt (length w) 64) refl e
+  where
+    go : (b : Bool) → nat_lt (length w) 64 ≡ b → ◌≡◌ {A = Result (Unit {0}) Fault} (Ok tt) (cond b (refused Lines 0) (Ok tt)) → 64 ≤ length w
+    go true q e = absurd (err_ok (sym e))
+    go false q e = ltb-false _ _ q

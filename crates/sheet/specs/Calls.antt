@@ -27,6 +27,10 @@ reopened s (Err e) = s
 abbrev pub struck : Contents → Result (Unit {0}) Fault
 struck s = cond (length s.lines == 0) (refused NoLine 0) (Ok tt)
 
+-- at least 64 working lines are lent
+abbrev pub enough : {R : Type 0} → List R → Result (Unit {0}) Fault
+enough w = cond (nat_lt (length w) 64) (refused Lines 0) (Ok tt)
+
 abbrev pub shortened : Contents → Contents
 shortened s = record { over = s.over; lines = take (length s.lines - 1) s.lines }
 

@@ -1,32 +1,23 @@
 // Adding one line.
-ghost use Rattle.std.specs.Prelude.{◌≡◌, ◌<◌, [], ◌∷◌, ◌++◌, length, slice_set};
+ghost use Rattle.std.specs.Prelude.{◌≡◌, ◌<◌, length};
 ghost use Rattle.sheet.specs.Contents.{Contents, contents};
 ghost use Rattle.sheet.specs.Calls.{grown, numbered, stored};
 ghost use Rattle.sheet.specs.Calls as calls;
 
 use crate::sheet::Sheet;
+use crate::sheet::lending::{enough, keep};
 use fault::{Cause, Fault};
 use kind::NumberKind;
 use line::Line;
 use rule::record_of;
 use slope::Record;
 
-// Writes a record whole.
-pub fn keep<K: NumberKind>(records: &mut [Record<K>], n: usize, made: Record<K>)
-    requires { n < length records.old }
-    ensures { records.new ≡ slice_set records.old n made }
-{
-    records[n] = made;
-}
-
 impl Sheet {
     // The record of one more line, or why it is refused.
     fn next<K: NumberKind>(&self, working: &[Record<K>], line: Line) -> Result<Record<K>, Fault>
         ensures { result ≡ calls.next K.NumberKind.model (contents self.now) working.now line }
     {
-        if working.len() < 64 {
-            return Err(Cause::Lines.at(0));
-        }
+        enough(working)?;
         if self.held == 64 {
             return Err(Cause::Full.at(64));
         }

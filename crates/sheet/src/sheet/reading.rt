@@ -5,7 +5,7 @@ ghost use Rattle.sheet.specs.Contents.{contents};
 ghost use Rattle.sheet.specs.Reading.{ReadTrips, filled, overlaid, read_formula, read_lines, read_onto};
 
 use crate::sheet::Sheet;
-use crate::sheet::adding::keep;
+use crate::sheet::lending::{enough, keep};
 use fault::{Cause, Fault};
 use kind::NumberKind;
 use leb::Place;
@@ -67,9 +67,7 @@ impl Sheet {
         ensures records { working.new ≡ overlaid (read_onto K.NumberKind.model (contents self.old) working.old bytes.now).records working.old }
         ensures trips { ReadTrips K.NumberKind.model }
     {
-        if working.len() < 64 {
-            return Err(Cause::Lines.at(0));
-        }
+        enough(working)?;
         if self.held > 0 {
             return Err(Cause::NotEmpty.at(0));
         }

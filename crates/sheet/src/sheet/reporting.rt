@@ -4,6 +4,7 @@ ghost use Rattle.sheet.specs.Contents.{contents};
 ghost use Rattle.sheet.specs.Calls as calls;
 
 use crate::sheet::Sheet;
+use crate::sheet::lending::enough;
 use fault::{Cause, Fault};
 use kind::NumberKind;
 use report::{Report, report_of};
@@ -14,9 +15,7 @@ impl Sheet {
     pub fn report<K: NumberKind>(&self, working: &[Record<K>], line: usize) -> Result<Report, Fault>
         ensures { result ≡ calls.report K.NumberKind.model (contents self.now) working.now line }
     {
-        if working.len() < 64 {
-            return Err(Cause::Lines.at(0));
-        }
+        enough(working)?;
         if line >= self.held {
             return Err(Cause::NoLine.at(line));
         }
