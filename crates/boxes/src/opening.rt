@@ -65,6 +65,7 @@ impl ChannelBox {
             return Err(Cause::Channels.at(0));
         }
         let mut ranges = [Range { lower: 0, upper: 0 }; 8];
+        // by the channel's index, as this project has it: it is also the place of a refusal
         for c in 0..channels {
             ranges[c] = range(lower[c], upper[c], c)?;
         }

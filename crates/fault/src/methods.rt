@@ -12,6 +12,7 @@ impl Cause {
         Fault { cause: self, place }
     }
 
+    // The number of this refusal. (A method by that name says more than `u32::from`; there is no way back, since two share 16.)
     pub fn number(self) -> u32
         ensures { result ≡ number self }
     {

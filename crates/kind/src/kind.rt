@@ -5,7 +5,8 @@ ghost use Rattle.kind.specs.Model.{Model, Rules};
 ghost use Rattle.kind.specs.Model as kinds;
 
 // A number kind supplies marks, the numbers that an end of a span may have: they are the values of the type. `model` is
-// their meaning, and `rules` is what each kind owes. Code that is written for any kind knows nothing else about it.
+// their meaning, and `rules` is what each kind owes. Code that is written for any kind knows nothing else about it. Rounding
+// below and above are functions of their own, each with its contract, and not one with a direction: so this project has it.
 pub trait NumberKind: Copy {
     ghost model: { Model Self };
 

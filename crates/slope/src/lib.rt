@@ -1,4 +1,5 @@
-// Second-order slope records and the rules of the simpler operations, for every number kind.
+// Second-order slope records and the rules of the simpler operations, for every number kind. A slope rule is a chain of
+// `let .. else` over optional spans that leaves with a record without slopes: so this project has it, here and above.
 #![tactic(auto)]
 
 mod choices;

@@ -31,7 +31,7 @@ pub struct Shape<K: NumberKind> {
 }
 
 impl<K: NumberKind> Record<K> {
-    // A record with no slopes.
+    // A record with no slopes. (U and U0 are handed on as two spans: a struct of them would name the record's fields again.)
     pub fn flat(u: Span<K>, u0: Span<K>) -> Record<K>
         ensures { result ≡ rec u u0 None }
     {

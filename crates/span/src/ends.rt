@@ -5,7 +5,7 @@ ghost use Rattle.span.specs.Spans as spans;
 use crate::span::Span;
 use kind::NumberKind;
 
-// Least and greatest are each a line, so neither is derived from the other.
+// Each of these is a line, so none is derived from its mirror image.
 pub fn lesser_mark<K: NumberKind>(a: K, b: K) -> K
     ensures { result ≡ spans.lesser_mark K.NumberKind.model a b }
 {
@@ -71,7 +71,7 @@ impl<K: NumberKind> Span<K> {
         }
     }
 
-    // Each end the lesser of the two.
+    // Each end the lesser of the two. (A closure for the choice of an end would be longer than both.)
     pub fn lesser(self, other: Span<K>) -> Span<K>
         ensures { result ≡ spans.lesser K.NumberKind.model self other }
     {

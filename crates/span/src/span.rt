@@ -23,7 +23,7 @@ pub fn ends<K: NumberKind>(lower: Option<K>, upper: Option<K>) -> Option<Span<K>
 }
 
 impl<K: NumberKind> Span<K> {
-    // The narrowest span over a range of counts.
+    // The narrowest span over a range of counts. (Two counts in any order: a type for ranges would ask that they be in order.)
     pub fn of_counts(lower: i32, upper: i32) -> Option<Span<K>>
         ensures value { result ≡ spans.of_counts K.NumberKind.model lower upper }
         ensures narrowest { CountsLaw K.NumberKind.model lower upper result }

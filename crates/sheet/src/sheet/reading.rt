@@ -32,6 +32,7 @@ impl Sheet {
         ensures none { self.new.held ≡ 0 }
     {
         let mut place = from;
+        // n is the line's number: its place in the table and among the working lines, and how many are earlier
         for n in 0..count {
             let line = line_at(bytes, &mut place)?;
             let made = record_of(&self.over, &working[..n], line)?;
