@@ -1,5 +1,5 @@
 -- What the code computes in 64 bits, as ratios of counts.
-use Rattle.std.proofs.Common.{◌≡◌, ℕ, ◌*◌, ◌<◌, ℤ, pos, negsuc, ◌*ℤ◌, neg_ℤ, nat_abs, ◌≤ℤ◌, Some, None, Option, sym, refl, ap, ◌∙◌, subst, arith, lit<}
+use Rattle.std.proofs.Common.{◌≡◌, ℕ, ◌*◌, ◌<◌, ℤ, pos, negsuc, ◌*ℤ◌, neg_ℤ, nat_abs, ◌≤ℤ◌, Some, None, sym, refl, ap, ◌∙◌, subst, arith, lit<}
 use borrow.Author.Differences.{ints}
 use lib.IntN.{neg_ℤ-neg_ℤ}
 use lib.Signed.{le_z}

@@ -95,6 +95,7 @@ impl NumberKind for Fixed {
         Fixed { count: 65536 }
     }
 
+    #[tactic(auto, using(crate::proofs::Ratios::le_count))]
     fn at_most(self, other: Fixed) -> bool {
         self.count <= other.count
     }
@@ -135,10 +136,12 @@ impl NumberKind for Fixed {
         whole(n).above()
     }
 
+    #[tactic(auto, using(crate::proofs::Ratios::floor_of_count))]
     fn floor(self) -> i64 {
         i64::from(self.count)
     }
 
+    #[tactic(auto, using(crate::proofs::Ratios::ceiling_of_count))]
     fn ceiling(self) -> i64 {
         i64::from(self.count)
     }

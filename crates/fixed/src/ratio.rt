@@ -4,6 +4,7 @@ ghost use Rattle.std.specs.Int.{int_div_euclid};
 
 use crate::mark::Fixed;
 
+// The greatest count of a mark.
 pub const TOP: u64 = 1_073_741_823;
 
 // n / d counts.
