@@ -83,10 +83,7 @@ fn counts(a: Sign) -> i64
 fn rounded(n: i64) -> Option<Sign>
     ensures { result ≡ kinds.count_below sign_model n }
 {
-    if n > 65536 {
-        return None;
-    }
-    if n < -65536 {
+    if n.unsigned_abs() > 65536 {
         return None;
     }
     marked(n.div_euclid(65536))
@@ -142,10 +139,7 @@ impl NumberKind for Sign {
     }
 
     fn count_above(n: i32) -> Option<Sign> {
-        match rounded(-i64::from(n)) {
-            Some(s) => Some(opposite(s)),
-            None => None,
-        }
+        rounded(-i64::from(n)).map(opposite)
     }
 
     fn floor(self) -> i64 {
