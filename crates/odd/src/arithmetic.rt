@@ -102,8 +102,9 @@ impl NumberKind for Sign {
         Sign::Plus
     }
 
+    #[tactic(auto, using(crate::specs::Signs::in_order))]
     fn at_most(self, other: Sign) -> bool {
-        whole(self) <= whole(other)
+        self <= other
     }
 
     fn negated(self) -> Sign {

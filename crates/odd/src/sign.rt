@@ -1,6 +1,6 @@
 // The marks of the odd kind.
 
-#[derive(Clone, Copy, PartialEq, Eq, Debug)]
+#[derive(Clone, Copy, PartialEq, Eq, PartialOrd, Ord, Debug)]
 pub enum Sign {
     Minus,
     Nought,
