@@ -12,11 +12,7 @@ use kind::NumberKind;
 fn whole(s: Sign) -> i64
     ensures { result ≡ signs.whole s }
 {
-    match s {
-        Sign::Minus => -1,
-        Sign::Nought => 0,
-        Sign::Plus => 1,
-    }
+    s as i64
 }
 
 // The mark of a whole number, if it is one.

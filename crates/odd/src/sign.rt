@@ -2,7 +2,7 @@
 
 #[derive(Clone, Copy, PartialEq, Eq, PartialOrd, Ord, Debug)]
 pub enum Sign {
-    Minus,
-    Nought,
-    Plus,
+    Minus = -1,
+    Nought = 0,
+    Plus = 1,
 }
