@@ -36,6 +36,7 @@ impl Sliding {
     }
 
     // The mark in whole 1/16,777,216, exactly.
+    #[tactic(auto, using(crate::proofs::Ops::size_bound, crate::proofs::Ops::plain_scaled))]
     pub fn units(self) -> i64
         ensures value { result ≡ sliding_grid.size self }
         ensures bound { unsigned_abs result ≤ 2 ^ 56 }
@@ -146,6 +147,7 @@ impl NumberKind for Sliding {
         }
     }
 
+    #[tactic(auto, using(crate::proofs::Ops::le_value))]
     fn at_most(self, other: Sliding) -> bool {
         self.units() <= other.units()
     }
@@ -186,10 +188,12 @@ impl NumberKind for Sliding {
         whole(n).above()
     }
 
+    #[tactic(auto, using(crate::proofs::Ops::floor_value))]
     fn floor(self) -> i64 {
         self.units() >> 8
     }
 
+    #[tactic(auto, using(crate::proofs::Ops::ceil_value))]
     fn ceiling(self) -> i64 {
         -(-self.units() >> 8)
     }

@@ -12,6 +12,7 @@ pub struct Settled {
 }
 
 // The least scale at which k has at most 24 bits.
+#[tactic(auto, using(crate::proofs::Scales::scale_is))]
 fn scale_of(k: i64) -> u32
     requires { unsigned_abs k < 2 ^ 63 }
     ensures { Scale k result }
