@@ -35,10 +35,7 @@ impl Ratio {
             mantissa: s.mantissa,
             scale,
         };
-        if scale < COARSEST {
-            return Some(mark);
-        }
-        if s.mantissa < LARGEST {
+        if scale < COARSEST || s.mantissa < LARGEST {
             return Some(mark);
         }
         if scaled(s.mantissa, s.scale) * i64::from(self.d) < self.n {
