@@ -40,7 +40,7 @@ pub fn settle(k: i64) -> Settled
     }
 }
 
-// size × 2^scale
+// size × 2^scale; the scale is not always a mark's own, so the two stay apart.
 pub fn scaled(size: i32, scale: u32) -> i64
     requires { (unsigned_abs size ≤ 16777215) × (scale ≤ 38) }
     ensures { result ≡ shifted size scale }
