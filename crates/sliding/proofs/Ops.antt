@@ -1,7 +1,7 @@
 -- The operations of the sliding kind as ratios in 64 bits.
-use Rattle.std.proofs.Common.{◌≡◌, ℕ, zero, suc, ◌+◌, ◌-◌, ◌*◌, ◌%◌, ◌^◌, ◌<◌, ◌≤◌, [], ◌∷◌, ℤ, pos, negsuc, ◌+ℤ◌, ◌*ℤ◌, neg_ℤ, nat_abs, sym, refl, ap, ◌∙◌, subst, ap₂, mul_comm, mul-le-mul, mul-pos, arith, lit<, pow_pos, pow-add, shl_exact, w32, w64, SFits, to_z, of_z}
+use Rattle.std.proofs.Common.{◌≡◌, ℕ, zero, suc, ◌+◌, ◌-◌, ◌*◌, ◌%◌, ◌^◌, ◌<◌, ◌≤◌, [], ◌∷◌, ℤ, pos, negsuc, ◌+ℤ◌, ◌-ℤ◌, ◌*ℤ◌, neg_ℤ, nat_abs, ◌≤ℤ◌, sym, refl, ap, ◌∙◌, subst, ap₂, mul_comm, mul-le-mul, mul-pos, arith, lit<, pow_pos, pow-add, shl_exact, w32, w64, SFits, to_z, of_z}
 use borrow.Author.Differences.{ints}
-use lib.Signed.{le_z, mag}
+use lib.Signed.{le_z, mag, shr_z}
 use Rattle.std.proofs.lemmas.Int.{to_z-of_z}
 use Rattle.std.specs.Int.{int_div_euclid}
 use Rattle.exact.proofs.Floors.{floor_between, floor_low, floor_next}
@@ -16,6 +16,7 @@ use Rattle.kind.specs.Grid.{grid_above, grid_below, units_over}
 use Rattle.kind.specs.Model.{count, product_above, product_below, quotient_above, quotient_below}
 use Rattle.sliding.proofs.Rounds.{negate_shifted}
 use Rattle.sliding.specs.Rules.{sliding_lawful, sliding_rules}
+use Rattle.sliding.proofs.Scales.{plain_shr}
 use Rattle.sliding.specs.Slides.{shifted_add, shifted_bound}
 use Rattle.sliding.specs.Cut.{Held, Stands, shifted}
 use Rattle.sliding.specs.Form.{Normal}
@@ -197,6 +198,22 @@ one_shift k h = shl_exact {a = 1} 1 k 32 (omega arith) (omega arith) ∙ omega a
 
 pub by_shift : (a k : ℕ) → a ≤ 16777215 → k ≤ 8 → (a * 2 ^ k) % 4294967296 ≡ a * 2 ^ k
 by_shift a k p h = shl_exact {a = a} 24 k 32 (omega arith) (omega arith)
+
+module _ (x v : ℤ) (e : x ≡ v) (b : nat_abs v ≤ 2 ^ 56) where
+  pub minus_fits : SFits w64 (pos 0 -ℤ x)
+  minus_fits = rw e (omega (arith, ints))
+
+  inner : to_z w64 (of_z w64 (shr_z (to_z w64 (of_z w64 (pos 0 -ℤ x))) 256)) ≡ int_div_euclid (neg_ℤ v) (pos 256)
+  inner = plain_shr (pos 0 -ℤ x) 8 minus_fits ∙ ap (λ (z : ℤ). int_div_euclid z (pos 256)) (rw e (omega (arith, ints)))
+
+  range : (int_div_euclid (neg_ℤ v) (pos 256) ≤ℤ pos (2 ^ 57)) × (neg_ℤ (pos (2 ^ 57)) ≤ℤ int_div_euclid (neg_ℤ v) (pos 256))
+  range = let p = floor_low (neg_ℤ v) 256 (lit< tt) in let q = floor_next (neg_ℤ v) 256 (lit< tt) in (omega (arith, ints), omega (arith, ints))
+
+  pub outer_fits : SFits w64 (pos 0 -ℤ to_z w64 (of_z w64 (shr_z (to_z w64 (of_z w64 (pos 0 -ℤ x))) 256)))
+  outer_fits = let r = range in rw inner (omega (arith, ints))
+
+  pub plain_ceil8 : to_z w64 (of_z w64 (pos 0 -ℤ to_z w64 (of_z w64 (shr_z (to_z w64 (of_z w64 (pos 0 -ℤ x))) 256)))) ≡ neg_ℤ (int_div_euclid (neg_ℤ v) (pos 256))
+  plain_ceil8 = to_z-of_z w64 (pos 0 -ℤ to_z w64 (of_z w64 (shr_z (to_z w64 (of_z w64 (pos 0 -ℤ x))) 256))) outer_fits ∙ ap (λ (z : ℤ). pos 0 -ℤ z) inner ∙ omega (arith, ints)
 
 -- a quotient by a mark that is not 0
 module _ (a b : Sliding) (k n : ℤ) (by d t : ℕ) (h : 0 < d) (some : 0 < by) (s : Stands (shifted k a.scale *ℤ pos 16777216) (by * 2 ^ b.scale) n d t) where

@@ -36,7 +36,7 @@ impl Sliding {
     }
 
     // The mark in whole 1/16,777,216, exactly.
-    #[tactic(auto, using(crate::proofs::Ops::size_bound, crate::proofs::Ops::plain_scaled))]
+    #[tactic(auto, using(crate::proofs::Ops::plain_scaled))]
     pub fn units(self) -> i64
         ensures value { result ≡ sliding_grid.size self }
         ensures bound { unsigned_abs result ≤ 2 ^ 56 }
@@ -193,7 +193,6 @@ impl NumberKind for Sliding {
         self.units() >> 8
     }
 
-    #[tactic(auto, using(crate::proofs::Ops::ceil_value))]
     fn ceiling(self) -> i64 {
         -(-self.units() >> 8)
     }
