@@ -166,12 +166,12 @@ pub at_count : (n : ℤ) (h : 0 < 1) → units_over sliding_grid (n *ℤ pos 256
 unfolding units_over
 at_count n h = record { cross = omega (arith, ints) }
 
-pub size_bound : (m : ℤ) (s : ℕ) → Normal m s → nat_abs (shifted m s) ≤ 2 ^ 56
-size_bound m s p = let b = shifted_bound m s 32 16777215 p.0 p.1 in omega arith
-
 -- ---- what the code computes, as plain numbers
 pub plain_scaled : (r m : ℤ) (s : ℕ) → nat_abs m ≤ 16777215 → mag r < 2 ^ 63 → r ≡ shifted (to_z w32 (of_z w32 m)) s → to_z w64 (of_z w64 r) ≡ shifted m s
 plain_scaled r m s p f e = to_z-of_z w64 r (record { sfits = f }) ∙ e ∙ ap (λ (z : ℤ). shifted z s) (plain32 m (omega arith))
+
+pub scaled_bound : (r m : ℤ) (s : ℕ) → nat_abs m ≤ 16777215 → mag r < 2 ^ 63 → r ≡ shifted (to_z w32 (of_z w32 m)) s → s ≤ 32 → nat_abs (to_z w64 (of_z w64 r)) ≤ 2 ^ 56
+scaled_bound r m s p f e q = let b = shifted_bound m s 32 16777215 p q in rw (plain_scaled r m s p f e) (omega arith)
 
 pub sum_fits : (x y v w : ℤ) → x ≡ v → y ≡ w → nat_abs v ≤ 2 ^ 56 → nat_abs w ≤ 2 ^ 56 → SFits w64 (x +ℤ y)
 sum_fits x y v w e f p q = rw (e, f) (omega (arith, ints))

@@ -36,7 +36,7 @@ impl Sliding {
     }
 
     // The mark in whole 1/16,777,216, exactly.
-    #[tactic(auto, using(crate::proofs::Ops::plain_scaled))]
+    #[tactic(auto, using(crate::proofs::Ops::plain_scaled, crate::proofs::Ops::scaled_bound))]
     pub fn units(self) -> i64
         ensures value { result ≡ sliding_grid.size self }
         ensures bound { unsigned_abs result ≤ 2 ^ 56 }
