@@ -1,5 +1,6 @@
 -- What the code computes in 64 bits, as ratios of counts.
-use Rattle.std.proofs.Common.{◌≡◌, ℕ, ◌<◌, ℤ, pos, ◌*ℤ◌, neg_ℤ, ◌≤ℤ◌, Some, Option, sym, refl, ap, ◌∙◌, subst, lit<}
+use Rattle.std.proofs.Common.{◌≡◌, ℕ, ◌*◌, ◌<◌, ℤ, pos, negsuc, ◌*ℤ◌, neg_ℤ, nat_abs, ◌≤ℤ◌, Some, None, sym, refl, ap, ◌∙◌, subst, arith, lit<}
+use borrow.Author.Differences.{ints}
 use lib.IntN.{neg_ℤ-neg_ℤ}
 use lib.Signed.{le_z}
 use Rattle.std.specs.Int.{int_div_euclid}
@@ -7,7 +8,8 @@ use Rattle.exact.proofs.Floors.{floor_exact, floor_greatest, floor_low}
 use Rattle.exact.proofs.Integers.{leZ_times, ≤ℤ_cancel, ≤ℤ_trans}
 use Rattle.exact.specs.Floor.{ceiling, floor}
 use Rattle.exact.specs.Fraction.{◌≈◌, le_F, neg_F}
-use Rattle.kind.proofs.GridRules.{ratio_some}
+use Rattle.kind.proofs.GridOps.{above, below}
+use Rattle.kind.proofs.GridRules.{ratio_none_over, ratio_none_under, ratio_some}
 use Rattle.kind.specs.Grid.{grid_above, grid_below, grid_value, units_over}
 use Rattle.kind.specs.Model.{count}
 use Rattle.fixed.specs.Rules.{fixed_lawful}
@@ -22,12 +24,21 @@ pub fixed_some : (n : ℤ) (d : ℕ) (h : 0 < d) (k : Fixed) → k.count ≡ int
 fixed_some n d h k e p = ratio_some fixed_grid fixed_lawful n d h k
     (subst (λ (z : ℤ). (z *ℤ pos d) ≤ℤ n) (sym e) (floor_low n d h)) p (λ a q. subst (λ (z : ℤ). a.count ≤ℤ z) (sym e) (floor_greatest n d h a.count q))
 
--- what a call of the ratio answers, at the number that was meant
-pub at_below : (r : Option Fixed) (z n : ℤ) (d : ℕ) (h : 0 < d) → r ≡ grid_below fixed_grid (units_over fixed_grid z d h) → z ≡ n → r ≡ grid_below fixed_grid (units_over fixed_grid n d h)
-at_below r z n d h p e = p ∙ ap (λ (y : ℤ). grid_below fixed_grid (units_over fixed_grid y d h)) e
+pub fixed_none : (n : ℤ) (d : ℕ) (h : 0 < d) → 1073741823 * d < nat_abs n → None ≡ grid_below fixed_grid (units_over fixed_grid n d h)
+fixed_none (pos a) d h p = ratio_none_over fixed_grid fixed_lawful (pos a) d h (omega (arith, ints))
+fixed_none (negsuc a) d h p = ratio_none_under fixed_grid fixed_lawful (negsuc a) d h (omega (arith, ints))
 
-pub at_above : (r : Option Fixed) (z n : ℤ) (d : ℕ) (h : 0 < d) → r ≡ grid_above fixed_grid (units_over fixed_grid z d h) → z ≡ n → r ≡ grid_above fixed_grid (units_over fixed_grid n d h)
-at_above r z n d h p e = p ∙ ap (λ (y : ℤ). grid_above fixed_grid (units_over fixed_grid y d h)) e
+-- at the number that is meant
+module _ (z n : ℤ) (d : ℕ) (g h : 0 < d) (e : z ≡ n) where
+  same : units_over fixed_grid z d g ≈ units_over fixed_grid n d h
+  unfolding units_over
+  same = record { cross = ap (λ (y : ℤ). y *ℤ pos (d * 65536)) e }
+
+  pub at_below : grid_below fixed_grid (units_over fixed_grid z d g) ≡ grid_below fixed_grid (units_over fixed_grid n d h)
+  at_below = below fixed_grid fixed_lawful _ _ same
+
+  pub at_above : grid_above fixed_grid (units_over fixed_grid z d g) ≡ grid_above fixed_grid (units_over fixed_grid n d h)
+  at_above = above fixed_grid fixed_lawful _ _ same
 
 pub at_count : (n : ℤ) (h : 0 < 1) → units_over fixed_grid n 1 h ≈ count n
 unfolding units_over

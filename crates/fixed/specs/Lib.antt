@@ -1,3 +1,4 @@
 pub mod Grid
 pub mod Marks
+pub mod Ratios
 pub mod Rules

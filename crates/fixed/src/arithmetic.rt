@@ -1,16 +1,14 @@
 // The fixed kind keeps the rules of a kind; its arithmetic stays in 64 bits.
-ghost use Rattle.std.specs.Prelude.{◌≡◌, ◌^◌, ◌<◌, pos, neg_ℤ, ◌≤ℤ◌};
-ghost use Rattle.std.specs.Int.{int_div_euclid};
-ghost use Rattle.kind.specs.Grid.{units_over, grid_below, grid_above};
-ghost use Rattle.kind.specs.Grid as grids;
+ghost use Rattle.std.specs.Prelude.{◌≡◌};
+ghost use Rattle.kind.specs.Model as kinds;
 ghost use Rattle.fixed.specs.Grid.{fixed_grid, fixed_model, mark_of};
 ghost use Rattle.fixed.specs.Marks.{FixedMarks};
+ghost use Rattle.fixed.specs.Ratios as ratios;
 ghost use Rattle.fixed.specs.Rules.{fixed_rules};
 
 use crate::mark::Fixed;
+use crate::ratio::{Ratio, TOP};
 use kind::NumberKind;
-
-const TOP: i64 = 1_073_741_823;
 
 impl Fixed {
     // The mark of a number of counts. The marks of this kind are m/65,536 for each count m, and no others.
@@ -20,61 +18,68 @@ impl Fixed {
     {
         marked(n)
     }
+
+    pub(crate) fn opposite(self) -> Fixed
+        ensures { result ≡ fixed_grid.minus self }
+    {
+        Fixed { count: -self.count }
+    }
 }
 
 fn marked(n: i64) -> Option<Fixed>
     ensures { result ≡ mark_of n }
 {
-    if n > TOP {
-        return None;
-    }
-    if n < -TOP {
+    if n.unsigned_abs() > TOP {
         return None;
     }
     Some(Fixed { count: n as i32 })
 }
 
-// n / d rounded down, also where it is negative.
-fn floor_of(n: i64, d: u32) -> i64
-    requires { 0 < d }
-    ensures { result ≡ int_div_euclid n (pos d) }
+// n counts
+fn whole(n: i32) -> Ratio
+    ensures below { ratios.below result ≡ kinds.count_below fixed_model n }
+    ensures above { ratios.above result ≡ kinds.count_above fixed_model n }
 {
-    n.div_euclid(d as i64)
+    Ratio {
+        n: i64::from(n),
+        d: 1,
+    }
 }
 
-// The greatest mark not above n / d counts.
-fn ratio_below(n: i64, d: u32) -> Option<Fixed>
-    requires { 0 < d }
-    ensures { (h : 0 < d) → result ≡ grid_below fixed_grid (units_over fixed_grid n d h) }
+fn sum(a: Fixed, b: Fixed) -> Ratio
+    ensures below { ratios.below result ≡ kinds.sum_below fixed_model a b }
+    ensures above { ratios.above result ≡ kinds.sum_above fixed_model a b }
 {
-    if n > TOP * d as i64 {
+    Ratio {
+        n: i64::from(a.count) + i64::from(b.count),
+        d: 1,
+    }
+}
+
+fn product(a: Fixed, b: Fixed) -> Ratio
+    ensures below { ratios.below result ≡ kinds.product_below fixed_model a b }
+    ensures above { ratios.above result ≡ kinds.product_above fixed_model a b }
+{
+    Ratio {
+        n: i64::from(a.count) * i64::from(b.count),
+        d: 65536,
+    }
+}
+
+// Absent for the divisor 0.
+fn quotient(a: Fixed, b: Fixed) -> Option<Ratio>
+    ensures below { ratios.maybe_below result ≡ kinds.quotient_below fixed_model a b }
+    ensures above { ratios.maybe_above result ≡ kinds.quotient_above fixed_model a b }
+{
+    let n = i64::from(a.count) * 65536;
+    let d = b.count.unsigned_abs();
+    if b.count == 0 {
         return None;
     }
-    if n < -TOP * d as i64 {
-        return None;
+    if b.count < 0 {
+        return Some(Ratio { n: -n, d });
     }
-    Some(Fixed {
-        count: floor_of(n, d) as i32,
-    })
-}
-
-// The negative of a mark that may be absent.
-fn mirrored(o: Option<Fixed>) -> Option<Fixed>
-    ensures { result ≡ grids.mirrored fixed_grid o }
-{
-    match o {
-        Some(k) => Some(Fixed { count: -k.count }),
-        None => None,
-    }
-}
-
-// The least mark not below n / d counts.
-fn ratio_above(n: i64, d: u32) -> Option<Fixed>
-    requires positive { 0 < d }
-    requires bounded { neg_ℤ (pos (2 ^ 62)) ≤ℤ n }
-    ensures { (h : 0 < d) → result ≡ grid_above fixed_grid (units_over fixed_grid n d h) }
-{
-    mirrored(ratio_below(-n, d))
+    Some(Ratio { n, d })
 }
 
 impl NumberKind for Fixed {
@@ -90,63 +95,54 @@ impl NumberKind for Fixed {
         Fixed { count: 65536 }
     }
 
+    #[tactic(auto, using(crate::proofs::Ratios::le_count))]
     fn at_most(self, other: Fixed) -> bool {
         self.count <= other.count
     }
 
     fn negated(self) -> Fixed {
-        Fixed { count: -self.count }
+        self.opposite()
     }
 
     fn sum_below(self, other: Fixed) -> Option<Fixed> {
-        ratio_below(self.count as i64 + other.count as i64, 1)
+        sum(self, other).below()
     }
 
     fn sum_above(self, other: Fixed) -> Option<Fixed> {
-        ratio_above(self.count as i64 + other.count as i64, 1)
+        sum(self, other).above()
     }
 
     fn product_below(self, other: Fixed) -> Option<Fixed> {
-        ratio_below(self.count as i64 * other.count as i64, 65536)
+        product(self, other).below()
     }
 
     fn product_above(self, other: Fixed) -> Option<Fixed> {
-        ratio_above(self.count as i64 * other.count as i64, 65536)
+        product(self, other).above()
     }
 
     fn quotient_below(self, other: Fixed) -> Option<Fixed> {
-        if other.count == 0 {
-            return None;
-        }
-        if other.count < 0 {
-            return ratio_below(-(self.count as i64) * 65536, (-other.count) as u32);
-        }
-        ratio_below(self.count as i64 * 65536, other.count as u32)
+        quotient(self, other)?.below()
     }
 
     fn quotient_above(self, other: Fixed) -> Option<Fixed> {
-        if other.count == 0 {
-            return None;
-        }
-        if other.count < 0 {
-            return ratio_above(-(self.count as i64) * 65536, (-other.count) as u32);
-        }
-        ratio_above(self.count as i64 * 65536, other.count as u32)
+        quotient(self, other)?.above()
     }
 
     fn count_below(n: i32) -> Option<Fixed> {
-        ratio_below(n as i64, 1)
+        whole(n).below()
     }
 
     fn count_above(n: i32) -> Option<Fixed> {
-        ratio_above(n as i64, 1)
+        whole(n).above()
     }
 
+    #[tactic(auto, using(crate::proofs::Ratios::floor_of_count))]
     fn floor(self) -> i64 {
-        self.count as i64
+        i64::from(self.count)
     }
 
+    #[tactic(auto, using(crate::proofs::Ratios::ceiling_of_count))]
     fn ceiling(self) -> i64 {
-        self.count as i64
+        i64::from(self.count)
     }
 }

@@ -3,5 +3,6 @@
 
 mod arithmetic;
 mod mark;
+mod ratio;
 
 pub use mark::Fixed;

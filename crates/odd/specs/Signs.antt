@@ -216,3 +216,7 @@ count_over n p = ratio_none_over sign_grid sign_lawful n 65536 (lit< tt) (omega 
 
 pub count_under : (n : ℤ) → n <ℤ neg_ℤ (pos 65536) → None ≡ grid_below sign_grid (count n)
 count_under n p = ratio_none_under sign_grid sign_lawful n 65536 (lit< tt) (omega (arith, ints)) ∙ at_count n (lit< tt)
+
+pub count_beyond : (n : ℤ) → 65536 < unsigned_abs n → None ≡ grid_below sign_grid (count n)
+count_beyond (pos a) p = count_over (pos a) (omega (arith, ints))
+count_beyond (negsuc a) p = count_under (negsuc a) (omega (arith, ints))

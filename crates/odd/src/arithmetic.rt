@@ -12,11 +12,7 @@ use kind::NumberKind;
 fn whole(s: Sign) -> i64
     ensures { result ≡ signs.whole s }
 {
-    match s {
-        Sign::Minus => -1,
-        Sign::Nought => 0,
-        Sign::Plus => 1,
-    }
+    s as i64
 }
 
 // The mark of a whole number, if it is one.
@@ -83,10 +79,7 @@ fn counts(a: Sign) -> i64
 fn rounded(n: i64) -> Option<Sign>
     ensures { result ≡ kinds.count_below sign_model n }
 {
-    if n > 65536 {
-        return None;
-    }
-    if n < -65536 {
+    if n.unsigned_abs() > 65536 {
         return None;
     }
     marked(n.div_euclid(65536))
@@ -105,8 +98,9 @@ impl NumberKind for Sign {
         Sign::Plus
     }
 
+    #[tactic(auto, using(crate::specs::Signs::in_order))]
     fn at_most(self, other: Sign) -> bool {
-        whole(self) <= whole(other)
+        self <= other
     }
 
     fn negated(self) -> Sign {
@@ -142,10 +136,7 @@ impl NumberKind for Sign {
     }
 
     fn count_above(n: i32) -> Option<Sign> {
-        match rounded(-i64::from(n)) {
-            Some(s) => Some(opposite(s)),
-            None => None,
-        }
+        rounded(-i64::from(n)).map(opposite)
     }
 
     fn floor(self) -> i64 {

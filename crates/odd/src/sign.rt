@@ -1,8 +1,8 @@
 // The marks of the odd kind.
 
-#[derive(Clone, Copy, PartialEq, Eq, Debug)]
+#[derive(Clone, Copy, PartialEq, Eq, PartialOrd, Ord, Debug)]
 pub enum Sign {
-    Minus,
-    Nought,
-    Plus,
+    Minus = -1,
+    Nought = 0,
+    Plus = 1,
 }

@@ -1,5 +1,5 @@
 -- The operations of the sliding kind as ratios in 64 bits.
-use Rattle.std.proofs.Common.{◌≡◌, ℕ, zero, suc, ◌+◌, ◌-◌, ◌*◌, ◌%◌, ◌^◌, ◌<◌, ◌≤◌, [], ◌∷◌, ℤ, pos, negsuc, ◌+ℤ◌, ◌-ℤ◌, ◌*ℤ◌, neg_ℤ, nat_abs, ◌≤ℤ◌, Option, sym, refl, ap, ◌∙◌, subst, ap₂, mul_comm, mul-le-mul, mul-pos, arith, lit<, pow_pos, pow-add, shl_exact, w32, w64, SFits, to_z, of_z}
+use Rattle.std.proofs.Common.{◌≡◌, ℕ, zero, suc, ◌+◌, ◌-◌, ◌*◌, ◌%◌, ◌^◌, ◌<◌, ◌≤◌, [], ◌∷◌, ℤ, pos, negsuc, ◌+ℤ◌, ◌-ℤ◌, ◌*ℤ◌, neg_ℤ, nat_abs, ◌≤ℤ◌, sym, refl, ap, ◌∙◌, subst, ap₂, mul_comm, mul-le-mul, mul-pos, arith, lit<, pow_pos, pow-add, shl_exact, w32, w64, SFits, to_z, of_z}
 use borrow.Author.Differences.{ints}
 use lib.Signed.{le_z, mag, shr_z}
 use Rattle.std.proofs.lemmas.Int.{to_z-of_z}
@@ -9,11 +9,11 @@ use Rattle.exact.proofs.Integers.{leZ_times, ring}
 use Rattle.exact.proofs.Ring.{◌⊗◌, num, x0, x1, x2, x3, x4}
 use Rattle.exact.specs.Floor.{ceiling, floor}
 use Rattle.exact.specs.Fraction.{◌≈◌, le_F, neg_F, ratio, whole}
-use Rattle.kind.proofs.GridOps.{quotient_above_neg, quotient_above_pos, quotient_below_neg, quotient_below_pos}
+use Rattle.kind.proofs.GridOps.{product_above_is, product_below_is, quotient_above_neg, quotient_above_pos, quotient_below_neg, quotient_below_pos}
 use Rattle.kind.proofs.Orders.{above_cong, below_cong}
-use Rattle.kind.proofs.Plain.{plain32, product_bound}
+use Rattle.kind.proofs.Plain.{plain32, plain_product, plain_wide, product_bound}
 use Rattle.kind.specs.Grid.{grid_above, grid_below, units_over}
-use Rattle.kind.specs.Model.{count, quotient_above, quotient_below}
+use Rattle.kind.specs.Model.{count, product_above, product_below, quotient_above, quotient_below}
 use Rattle.sliding.proofs.Rounds.{negate_shifted}
 use Rattle.sliding.specs.Rules.{sliding_lawful, sliding_rules}
 use Rattle.sliding.proofs.Scales.{plain_shr}
@@ -37,14 +37,11 @@ ratio_same n n' d d' h h' e = record {
       ∙ ring (n' ∷ pos d ∷ []) (x0 ⊗ x1 ⊗ num (pos 16777216)) (x0 ⊗ (x1 ⊗ num (pos 16777216))) refl;
 }
 
-pub below_ratio : (r : Option Sliding) (n n' : ℤ) (d d' : ℕ) (h : 0 < d) (h' : 0 < d') → r ≡ grid_below sliding_grid (units_over sliding_grid n d h) → n *ℤ pos d' ≡ n' *ℤ pos d → r ≡ grid_below sliding_grid (units_over sliding_grid n' d' h')
-below_ratio r n n' d d' h h' p e = p ∙ below_cong (sliding_model) sliding_rules (ratio_same n n' d d' h h' e)
+pub same_below : (n n' : ℤ) (d d' : ℕ) (h : 0 < d) (h' : 0 < d') → n *ℤ pos d' ≡ n' *ℤ pos d → grid_below sliding_grid (units_over sliding_grid n d h) ≡ grid_below sliding_grid (units_over sliding_grid n' d' h')
+same_below n n' d d' h h' e = below_cong (sliding_model) sliding_rules (ratio_same n n' d d' h h' e)
 
-pub above_ratio : (r : Option Sliding) (n n' : ℤ) (d d' : ℕ) (h : 0 < d) (h' : 0 < d') → r ≡ grid_above sliding_grid (units_over sliding_grid n d h) → n *ℤ pos d' ≡ n' *ℤ pos d → r ≡ grid_above sliding_grid (units_over sliding_grid n' d' h')
-above_ratio r n n' d d' h h' p e = p ∙ above_cong (sliding_model) sliding_rules (ratio_same n n' d d' h h' e)
-
-pub same_ratio : (r : Option Sliding) (n n' : ℤ) (d d' t : ℕ) → n' ≡ n → d' ≡ d → ((h : 0 < d') → r ≡ grid_below sliding_grid (units_over sliding_grid (shifted n' t) d' h)) → (h : 0 < d) → r ≡ grid_below sliding_grid (units_over sliding_grid (shifted n t) d h)
-same_ratio r n n' d d' t e f p h = let k : 0 < d' = omega arith in below_ratio r (shifted n' t) (shifted n t) d' d k h (p k) (ap₂ (λ (x : ℤ) (y : ℕ). shifted x t *ℤ pos y) e (sym f))
+pub same_above : (n n' : ℤ) (d d' : ℕ) (h : 0 < d) (h' : 0 < d') → n *ℤ pos d' ≡ n' *ℤ pos d → grid_above sliding_grid (units_over sliding_grid n d h) ≡ grid_above sliding_grid (units_over sliding_grid n' d' h')
+same_above n n' d d' h h' e = above_cong (sliding_model) sliding_rules (ratio_same n n' d d' h h' e)
 
 -- ---- products
 pub product_fine : (a b n : ℤ) (s r d : ℕ) → nat_abs a ≤ 16777215 → nat_abs b ≤ 16777215 → n ≡ a *ℤ b → s + r < 24 → d ≡ 2 ^ (24 - (s + r)) → Stands (shifted a s *ℤ shifted b r) 16777216 n d 0
@@ -97,6 +94,21 @@ product_wide a b n s r p q e f h = let w = product_bound a b 16777215 16777215 p
     wide zero r p q h = let u = wide_left (nat_abs b) (nat_abs a) (q.2 (omega arith)) (omega (arith, some, mul_comm (nat_abs a) (nat_abs b))) in omega (arith, abs_times a b, mul_comm (nat_abs a) (nat_abs b))
     wide (suc s) r p q h = let u = wide_left (nat_abs a) (nat_abs b) (p.2 (omega arith)) some in omega (arith, abs_times a b)
 
+-- what the code computes
+module _ (x y a b : ℤ) (e : x ≡ to_z w32 (of_z w32 a)) (f : y ≡ to_z w32 (of_z w32 b)) (p : nat_abs a ≤ 16777215) (q : nat_abs b ≤ 16777215) where
+  pub product_plain : to_z w64 (of_z w64 (to_z w64 (of_z w64 x) *ℤ to_z w64 (of_z w64 y))) ≡ a *ℤ b
+  product_plain = ap₂ (λ (v : ℤ) (w : ℤ). to_z w64 (of_z w64 (to_z w64 (of_z w64 v) *ℤ to_z w64 (of_z w64 w)))) e f ∙ plain_product a b (omega arith) (omega arith)
+
+  pub product_is_nought : to_z w64 (of_z w64 (to_z w64 (of_z w64 x) *ℤ to_z w64 (of_z w64 y))) ≡ pos 0 → of_z w64 (to_z w64 (of_z w64 x) *ℤ to_z w64 (of_z w64 y)) ≡ 0
+  product_is_nought z = ap (of_z w64) (ap₂ ◌*ℤ◌ (ap (λ (v : ℤ). to_z w64 (of_z w64 v)) e ∙ plain_wide a (omega arith)) (ap (λ (v : ℤ). to_z w64 (of_z w64 v)) f ∙ plain_wide b (omega arith)) ∙ sym product_plain ∙ z)
+
+module _ (a b : Sliding) (n : ℤ) (d t : ℕ) (h : 0 < d) (s : Stands (shifted a.mantissa a.scale *ℤ shifted b.mantissa b.scale) 16777216 n d t) where
+  pub times_below : grid_below sliding_grid (units_over sliding_grid (shifted n t) d h) ≡ product_below sliding_model a b
+  times_below = same_below (shifted n t) _ d 16777216 h (lit< tt) s.cross ∙ product_below_is sliding_grid sliding_lawful a b
+
+  pub times_above : grid_above sliding_grid (units_over sliding_grid (shifted n t) d h) ≡ product_above sliding_model a b
+  times_above = same_above (shifted n t) _ d 16777216 h (lit< tt) s.cross ∙ product_above_is sliding_grid sliding_lawful a b
+
 -- ---- quotients
 pub quotient_coarse : (m n : ℤ) (a by s d : ℕ) → n ≡ m → nat_abs m ≤ 16777215 → 0 < by → a + 24 < s → d ≡ by * 2 ^ (s - a - 24) → Stands (shifted m a *ℤ pos 16777216) (by * 2 ^ s) n d 0
 quotient_coarse m n a by s d g p q h e = let o = pow_pos (s - a - 24) in let w = mul-pos q o in record {
@@ -113,21 +125,17 @@ quotient_cross m a by s j e =
     ∙ ap (λ (z : ℤ). (m *ℤ z) *ℤ pos by) (sym (ratio_of (a + 24) j s (sym e)) ∙ ratio_of (a + 24) a 24 refl)
     ∙ ring (m ∷ pos by ∷ pos (2 ^ a) ∷ []) (x0 ⊗ (x2 ⊗ num (pos 16777216)) ⊗ x1) (x0 ⊗ x2 ⊗ num (pos 16777216) ⊗ x1) refl
 
-pub quotient_fine : (m n : ℤ) (a by s : ℕ) → n ≡ shifted m (a + 24 - s) → nat_abs m ≤ 16777215 → 0 < by → s ≤ a + 24 → a + 24 - s ≤ 38 → Stands (shifted m a *ℤ pos 16777216) (by * 2 ^ s) n by 0
-quotient_fine m n a by s g p q h k = let b = shifted_bound m (a + 24 - s) 38 16777215 p k in record {
-  held = record { positive = q; bound = subst (λ (z : ℤ). nat_abs z ≤ 2 ^ 62) (sym g) (omega arith); wide = λ z. omega arith; short = omega arith };
-  cross = ap (λ (z : ℤ). shifted z 0 *ℤ pos (by * 2 ^ s)) g
-      ∙ ap (λ (z : ℤ). z *ℤ pos (by * 2 ^ s)) (ring (shifted m (a + 24 - s) ∷ []) (x0 ⊗ num (pos 1)) x0 refl)
-      ∙ quotient_cross m a by s (a + 24 - s) (omega arith);
-}
-
-pub quotient_wide : (m n : ℤ) (a by s t : ℕ) → n ≡ shifted m 38 → Normal m a → 0 < by → by ≤ 16777215 → s ≤ 32 → 38 < a + 24 - s → t ≡ a + 24 - s - 38 → Stands (shifted m a *ℤ pos 16777216) (by * 2 ^ s) n by t
-quotient_wide m n a by s t g p q r u h k = let b = abs_times m (pos (2 ^ 38)) in let c = p.2 (omega arith) in let d = p.0 in record {
-  held = record { positive = q; bound = subst (λ (z : ℤ). nat_abs z ≤ 2 ^ 62) (sym g) (omega arith); wide = λ z. subst (λ (y : ℤ). 8388608 * by ≤ nat_abs y) (sym g) (omega arith); short = (let e = p.1 in omega arith) };
+pub quotient_lifted : (m n : ℤ) (a by s d t u : ℕ) → n ≡ shifted m u → u + t + s ≡ a + 24 → d ≡ by → Normal m a → 0 < by → by ≤ 16777215 → s ≤ 32 → s ≤ a + 24 → t ≡ a + 24 - s - 38 → Stands (shifted m a *ℤ pos 16777216) (by * 2 ^ s) n d t
+quotient_lifted m n a by s d t u g v l p q r w h k = let b = shifted_bound m u 38 16777215 p.0 (omega arith) in subst (λ (y : ℕ). Stands (shifted m a *ℤ pos 16777216) (by * 2 ^ s) n y t) (sym l) (record {
+  held = record { positive = q; bound = subst (λ (z : ℤ). nat_abs z ≤ 2 ^ 62) (sym g) (omega arith); wide = wide; short = (let e = p.1 in omega arith) };
   cross = ap (λ (z : ℤ). shifted z t *ℤ pos (by * 2 ^ s)) g
-      ∙ ap (λ (z : ℤ). z *ℤ pos (by * 2 ^ s)) (sym (shifted_add m 38 t))
-      ∙ quotient_cross m a by s (38 + t) (omega arith);
-}
+      ∙ ap (λ (z : ℤ). z *ℤ pos (by * 2 ^ s)) (sym (shifted_add m u t))
+      ∙ quotient_cross m a by s (u + t) v;
+})
+  where
+    wide : 0 < t → 8388608 * by ≤ nat_abs n
+    wide z = let e : u ≡ 38 = omega arith in let f : n ≡ shifted m 38 = g ∙ ap (shifted m) e in
+        let c = p.2 (omega arith) in let b = abs_times m (pos (2 ^ 38)) in subst (λ (y : ℤ). 8388608 * by ≤ nat_abs y) (sym f) (omega arith)
 
 -- ---- the rest
 pub at_value : (v z : ℤ) → v ≡ z *ℤ pos 16777216 → ratio v 16777216 (lit< tt) ≈ whole z
@@ -158,12 +166,12 @@ pub at_count : (n : ℤ) (h : 0 < 1) → units_over sliding_grid (n *ℤ pos 256
 unfolding units_over
 at_count n h = record { cross = omega (arith, ints) }
 
-pub size_bound : (m : ℤ) (s : ℕ) → Normal m s → nat_abs (shifted m s) ≤ 2 ^ 56
-size_bound m s p = let b = shifted_bound m s 32 16777215 p.0 p.1 in omega arith
-
 -- ---- what the code computes, as plain numbers
 pub plain_scaled : (r m : ℤ) (s : ℕ) → nat_abs m ≤ 16777215 → mag r < 2 ^ 63 → r ≡ shifted (to_z w32 (of_z w32 m)) s → to_z w64 (of_z w64 r) ≡ shifted m s
 plain_scaled r m s p f e = to_z-of_z w64 r (record { sfits = f }) ∙ e ∙ ap (λ (z : ℤ). shifted z s) (plain32 m (omega arith))
+
+pub scaled_bound : (r m : ℤ) (s : ℕ) → nat_abs m ≤ 16777215 → mag r < 2 ^ 63 → r ≡ shifted (to_z w32 (of_z w32 m)) s → s ≤ 32 → nat_abs (to_z w64 (of_z w64 r)) ≤ 2 ^ 56
+scaled_bound r m s p f e q = let b = shifted_bound m s 32 16777215 p q in rw (plain_scaled r m s p f e) (omega arith)
 
 pub sum_fits : (x y v w : ℤ) → x ≡ v → y ≡ w → nat_abs v ≤ 2 ^ 56 → nat_abs w ≤ 2 ^ 56 → SFits w64 (x +ℤ y)
 sum_fits x y v w e f p q = rw (e, f) (omega (arith, ints))
@@ -177,30 +185,19 @@ sum_held x y v w e f p q = record { positive = lit< tt; bound = rw (sum_plain x 
 pub zero_shift : (n k : ℤ) → n ≡ k → shifted n 0 *ℤ pos 1 ≡ k *ℤ pos 1
 zero_shift n k e = ap (λ (z : ℤ). shifted z 0 *ℤ pos 1) e ∙ ring (k ∷ []) (x0 ⊗ num (pos 1) ⊗ num (pos 1)) (x0 ⊗ num (pos 1)) refl
 
-pub stands_whole : (n k : ℤ) → k ≡ n → nat_abs n ≤ 2 ^ 62 → Stands n 1 k 1 0
-stands_whole n k e b = record {
-  held = record { positive = lit< tt; bound = subst (λ (z : ℤ). nat_abs z ≤ 2 ^ 62) (sym e) b; wide = λ z. omega arith; short = omega arith };
-  cross = zero_shift k n e;
-}
-
 -- n units, at the number that is meant
-pub below_whole : (r : Option Sliding) (n k n' : ℤ) (d t : ℕ) → Stands k 1 n d t → ((h : 0 < d) → r ≡ grid_below sliding_grid (units_over sliding_grid (shifted n t) d h)) → k ≡ n' → (h : 0 < 1) → r ≡ grid_below sliding_grid (units_over sliding_grid n' 1 h)
-below_whole r n k n' d t s p e h = below_ratio r (shifted n t) n' d 1 s.held.positive h (p s.held.positive) (s.cross ∙ ap (λ (z : ℤ). z *ℤ pos d) e)
+module _ (n k : ℤ) (h : 0 < 1) (e : n ≡ k) where
+  pub whole_below : grid_below sliding_grid (units_over sliding_grid (shifted n 0) 1 h) ≡ grid_below sliding_grid (units_over sliding_grid k 1 (lit< tt))
+  whole_below = same_below (shifted n 0) k 1 1 h (lit< tt) (zero_shift n k e)
 
-pub above_whole : (r : Option Sliding) (n k n' : ℤ) (d t : ℕ) → Stands k 1 n d t → ((h : 0 < d) → r ≡ grid_above sliding_grid (units_over sliding_grid (shifted n t) d h)) → k ≡ n' → (h : 0 < 1) → r ≡ grid_above sliding_grid (units_over sliding_grid n' 1 h)
-above_whole r n k n' d t s p e h = above_ratio r (shifted n t) n' d 1 s.held.positive h (p s.held.positive) (s.cross ∙ ap (λ (z : ℤ). z *ℤ pos d) e)
+  pub whole_above : grid_above sliding_grid (units_over sliding_grid (shifted n 0) 1 h) ≡ grid_above sliding_grid (units_over sliding_grid k 1 (lit< tt))
+  whole_above = same_above (shifted n 0) k 1 1 h (lit< tt) (zero_shift n k e)
 
 pub one_shift : (k : ℕ) → k ≤ 24 → (1 * 2 ^ k) % 4294967296 ≡ 2 ^ k
 one_shift k h = shl_exact {a = 1} 1 k 32 (omega arith) (omega arith) ∙ omega arith
 
 pub by_shift : (a k : ℕ) → a ≤ 16777215 → k ≤ 8 → (a * 2 ^ k) % 4294967296 ≡ a * 2 ^ k
 by_shift a k p h = shl_exact {a = a} 24 k 32 (omega arith) (omega arith)
-
-pub shifted_nought : (m : ℤ) (s : ℕ) → m ≡ pos 0 → shifted m s ≡ pos 0
-shifted_nought m s e = ap (λ (z : ℤ). shifted z s) e ∙ ring (pos (2 ^ s) ∷ []) (num (pos 0) ⊗ x0) (num (pos 0)) refl
-
-pub plain_floor8 : (r v : ℤ) → mag r < 2 ^ 63 → to_z w64 (of_z w64 r) ≡ v → to_z w64 (of_z w64 (shr_z (to_z w64 (of_z w64 r)) 256)) ≡ int_div_euclid v (pos 256)
-plain_floor8 r v f e = plain_shr r 8 (record { sfits = f }) ∙ ap (λ (z : ℤ). int_div_euclid z (pos 256)) (sym (to_z-of_z w64 r (record { sfits = f })) ∙ e)
 
 module _ (x v : ℤ) (e : x ≡ v) (b : nat_abs v ≤ 2 ^ 56) where
   pub minus_fits : SFits w64 (pos 0 -ℤ x)
@@ -219,7 +216,7 @@ module _ (x v : ℤ) (e : x ≡ v) (b : nat_abs v ≤ 2 ^ 56) where
   plain_ceil8 = to_z-of_z w64 (pos 0 -ℤ to_z w64 (of_z w64 (shr_z (to_z w64 (of_z w64 (pos 0 -ℤ x))) 256))) outer_fits ∙ ap (λ (z : ℤ). pos 0 -ℤ z) inner ∙ omega (arith, ints)
 
 -- a quotient by a mark that is not 0
-module _ (a b : Sliding) (r : Option Sliding) (k n : ℤ) (by d t : ℕ) (some : 0 < by) (s : Stands (shifted k a.scale *ℤ pos 16777216) (by * 2 ^ b.scale) n d t) where
+module _ (a b : Sliding) (k n : ℤ) (by d t : ℕ) (h : 0 < d) (some : 0 < by) (s : Stands (shifted k a.scale *ℤ pos 16777216) (by * 2 ^ b.scale) n d t) where
   divisor : 0 < by * 2 ^ b.scale
   divisor = mul-pos some (pow_pos b.scale)
 
@@ -229,18 +226,18 @@ module _ (a b : Sliding) (r : Option Sliding) (k n : ℤ) (by d t : ℕ) (some :
   cross_neg : k ≡ neg_ℤ a.mantissa → shifted n t *ℤ pos (by * 2 ^ b.scale) ≡ (neg_ℤ (shifted a.mantissa a.scale) *ℤ pos 16777216) *ℤ pos d
   cross_neg e = s.cross ∙ ap (λ (z : ℤ). (z *ℤ pos 16777216) *ℤ pos d) (negate_shifted k a.mantissa a.scale e)
 
-  pub div_below_pos : k ≡ a.mantissa → b.mantissa ≡ pos by → ((h : 0 < d) → r ≡ grid_below sliding_grid (units_over sliding_grid (shifted n t) d h)) → r ≡ quotient_below (sliding_model) a b
-  div_below_pos e f p = below_ratio r _ _ d _ s.held.positive divisor (p s.held.positive) (cross_pos e)
+  pub div_below_pos : k ≡ a.mantissa → b.mantissa ≡ pos by → grid_below sliding_grid (units_over sliding_grid (shifted n t) d h) ≡ quotient_below (sliding_model) a b
+  div_below_pos e f = same_below _ _ d _ h divisor (cross_pos e)
       ∙ quotient_below_pos sliding_grid sliding_lawful a b (by * 2 ^ b.scale) divisor (ap (λ (z : ℤ). shifted z b.scale) f)
 
-  pub div_above_pos : k ≡ a.mantissa → b.mantissa ≡ pos by → ((h : 0 < d) → r ≡ grid_above sliding_grid (units_over sliding_grid (shifted n t) d h)) → r ≡ quotient_above (sliding_model) a b
-  div_above_pos e f p = above_ratio r _ _ d _ s.held.positive divisor (p s.held.positive) (cross_pos e)
+  pub div_above_pos : k ≡ a.mantissa → b.mantissa ≡ pos by → grid_above sliding_grid (units_over sliding_grid (shifted n t) d h) ≡ quotient_above (sliding_model) a b
+  div_above_pos e f = same_above _ _ d _ h divisor (cross_pos e)
       ∙ quotient_above_pos sliding_grid sliding_lawful a b (by * 2 ^ b.scale) divisor (ap (λ (z : ℤ). shifted z b.scale) f)
 
-  pub div_below_neg : k ≡ neg_ℤ a.mantissa → b.mantissa ≡ neg_ℤ (pos by) → ((h : 0 < d) → r ≡ grid_below sliding_grid (units_over sliding_grid (shifted n t) d h)) → r ≡ quotient_below (sliding_model) a b
-  div_below_neg e f p = below_ratio r _ _ d _ s.held.positive divisor (p s.held.positive) (cross_neg e)
+  pub div_below_neg : k ≡ neg_ℤ a.mantissa → b.mantissa ≡ neg_ℤ (pos by) → grid_below sliding_grid (units_over sliding_grid (shifted n t) d h) ≡ quotient_below (sliding_model) a b
+  div_below_neg e f = same_below _ _ d _ h divisor (cross_neg e)
       ∙ quotient_below_neg sliding_grid sliding_lawful a b (by * 2 ^ b.scale) divisor (negate_shifted b.mantissa (pos by) b.scale f)
 
-  pub div_above_neg : k ≡ neg_ℤ a.mantissa → b.mantissa ≡ neg_ℤ (pos by) → ((h : 0 < d) → r ≡ grid_above sliding_grid (units_over sliding_grid (shifted n t) d h)) → r ≡ quotient_above (sliding_model) a b
-  div_above_neg e f p = above_ratio r _ _ d _ s.held.positive divisor (p s.held.positive) (cross_neg e)
+  pub div_above_neg : k ≡ neg_ℤ a.mantissa → b.mantissa ≡ neg_ℤ (pos by) → grid_above sliding_grid (units_over sliding_grid (shifted n t) d h) ≡ quotient_above (sliding_model) a b
+  div_above_neg e f = same_above _ _ d _ h divisor (cross_neg e)
       ∙ quotient_above_neg sliding_grid sliding_lawful a b (by * 2 ^ b.scale) divisor (negate_shifted b.mantissa (pos by) b.scale f)

@@ -1,13 +1,14 @@
 -- The greatest sliding mark not above n 2^t / d units, from the cell of ⌊n / d⌋.
-use Rattle.std.proofs.Common.{◌≡◌, ℕ, zero, suc, ◌+◌, ◌*◌, ◌^◌, ◌<◌, ◌≤◌, [], ◌∷◌, ℤ, pos, negsuc, ◌+ℤ◌, ◌*ℤ◌, neg_ℤ, nat_abs, ◌≤ℤ◌, ◌<ℤ◌, Some, None, sym, refl, ap, ◌∙◌, subst, ap₂, inl, inr, div-le_self, arith, pow_pos, pow_mono, w64, SFits, to_z, of_z}
+use Rattle.std.proofs.Common.{◌≡◌, ℕ, zero, suc, ◌+◌, ◌*◌, ◌^◌, ◌<◌, ◌≤◌, [], ◌∷◌, ℤ, pos, negsuc, ◌+ℤ◌, ◌*ℤ◌, neg_ℤ, nat_abs, ◌≤ℤ◌, ◌<ℤ◌, Some, None, sym, refl, ap, ◌∙◌, subst, ap₂, ◌⊎◌, inl, inr, div-le_self, arith, pow_pos, pow_mono, w32, w64, SFits, to_z, of_z}
 use borrow.Author.Differences.{ints}
+use lib.Signed.{mag}
 use Rattle.std.proofs.lemmas.Int.{by_lt_z, to_z-of_z}
 use Rattle.std.specs.Int.{int_div_euclid}
 use Rattle.exact.proofs.Floors.{floor_greatest, floor_low}
 use Rattle.exact.proofs.Integers.{ring, ≤ℤ_cancel, ≤ℤ_times, ≤ℤ_trans}
 use Rattle.exact.proofs.Ring.{◌⊗◌, x0, x1, x2, ⊝◌}
 use Rattle.kind.proofs.GridRules.{ratio_none_over, ratio_none_under, ratio_some}
-use Rattle.kind.proofs.Plain.{plain_floor}
+use Rattle.kind.proofs.Plain.{plain32, plain_floor}
 use Rattle.kind.specs.Grid.{grid_below, units_over}
 use Rattle.sliding.specs.Rules.{sliding_lawful}
 use Rattle.sliding.specs.Slides.{full, settled, shifted_add, shifted_bound, shifted_suc}
@@ -15,6 +16,8 @@ use Rattle.sliding.specs.Cut.{Cell, Coarse, Held, NotAbove, Settles, shifted}
 use Rattle.sliding.specs.Form.{Normal}
 use Rattle.sliding.specs.Grid.{sliding_grid}
 use Rattle.sliding.specs.declared.mark.Sliding.{Sliding}
+use Rattle.sliding.specs.declared.ratio.Ratio.{Ratio}
+use Rattle.sliding.specs.Ratios.{below}
 
 swap : (a b c : ℤ) → (a *ℤ b) *ℤ c ≡ (a *ℤ c) *ℤ b
 swap a b c = ring (a ∷ b ∷ c ∷ []) (x0 ⊗ x1 ⊗ x2) (x0 ⊗ x2 ⊗ x1) refl
@@ -109,34 +112,77 @@ module _ (n : ℤ) (d t : ℕ) (held : Held n d t) (m : ℤ) (u : ℕ) (s : Sett
   cell_at : Cell (Q n d held.positive t) m (u + t)
   cell_at = ratio_cell n d held.positive t u m held.wide s.cell
 
-  pub normal_at : (k : ℤ) → k ≡ m → u + t ≤ 32 → Normal k (u + t)
+  normal_at : (k : ℤ) → k ≡ m → u + t ≤ 32 → Normal k (u + t)
   normal_at k e b = subst (λ (z : ℤ). Normal z (u + t)) (sym e) (s.small, b, full (Q n d held.positive t) (q_down n d held.positive t) m (u + t) cell_at)
 
-  pub none_at : (h : 0 < d) → 32 < u + t → None ≡ grid_below sliding_grid (units_over sliding_grid (shifted n t) d h)
+  none_at : (h : 0 < d) → 32 < u + t → None ≡ grid_below sliding_grid (units_over sliding_grid (shifted n t) d h)
   none_at h b = rounds_none n d h t m (u + t) (ratio_cell n d h t u m held.wide s.cell) b
 
-  pub some_at : (h : 0 < d) (k : Sliding) → k.mantissa ≡ m → k.scale ≡ u + t → shifted n t ≤ℤ (pos 72057589742960640 *ℤ pos d) → Some k ≡ grid_below sliding_grid (units_over sliding_grid (shifted n t) d h)
+  some_at : (h : 0 < d) (k : Sliding) → k.mantissa ≡ m → k.scale ≡ u + t → shifted n t ≤ℤ (pos 72057589742960640 *ℤ pos d) → Some k ≡ grid_below sliding_grid (units_over sliding_grid (shifted n t) d h)
   some_at h k e f i = rounds_some n d h t k (subst (λ (z : ℤ). Cell (Q n d h t) z k.scale) (sym e) (subst (Cell (Q n d h t) m) (sym f) (ratio_cell n d h t u m held.wide s.cell))) i
 
-  pub inside_at : u + t ≤ 32 → shifted m (u + t) <ℤ pos 72057589742960640 → shifted n t ≤ℤ (pos 72057589742960640 *ℤ pos d)
+  inside_at : u + t ≤ 32 → shifted m (u + t) <ℤ pos 72057589742960640 → shifted n t ≤ℤ (pos 72057589742960640 *ℤ pos d)
   inside_at b e = inside_small n d held.positive t m (u + t) cell_at s.small b e
 
   -- at the greatest mark
   top_is : m ≡ pos 16777215 → u + t ≡ 32 → (shifted m u *ℤ pos d) *ℤ pos (2 ^ t) ≡ pos 72057589742960640 *ℤ pos d
   top_is e f = swap (shifted m u) (pos d) (pos (2 ^ t)) ∙ ap (λ (z : ℤ). z *ℤ pos d) (sym (shifted_add m u t) ∙ ap₂ shifted e f)
 
-  pub over_at : (h : 0 < d) → m ≡ pos 16777215 → u + t ≡ 32 → (shifted m u *ℤ pos d) <ℤ n → None ≡ grid_below sliding_grid (units_over sliding_grid (shifted n t) d h)
+  over_at : (h : 0 < d) → m ≡ pos 16777215 → u + t ≡ 32 → (shifted m u *ℤ pos d) <ℤ n → None ≡ grid_below sliding_grid (units_over sliding_grid (shifted n t) d h)
   over_at h e f i = rounds_over n d h t (subst (λ (z : ℤ). z <ℤ shifted n t) (top_is e f) (times_lt (shifted m u *ℤ pos d) n (2 ^ t) (pow_pos t) i))
     where
       times_lt : (x y : ℤ) (p : ℕ) → 0 < p → x <ℤ y → (x *ℤ pos p) <ℤ (y *ℤ pos p)
       times_lt x y p g l = by_lt_z (x *ℤ pos p) (y *ℤ pos p) (λ z. z) (λ z. let w = ≤ℤ_cancel y x p g z in absurd (omega (arith, ints)))
 
-  pub top_at : m ≡ pos 16777215 → u + t ≡ 32 → n ≤ℤ (shifted m u *ℤ pos d) → shifted n t ≤ℤ (pos 72057589742960640 *ℤ pos d)
+  top_at : m ≡ pos 16777215 → u + t ≡ 32 → n ≤ℤ (shifted m u *ℤ pos d) → shifted n t ≤ℤ (pos 72057589742960640 *ℤ pos d)
   top_at e f i = subst (λ (z : ℤ). shifted n t ≤ℤ z) (top_is e f) (≤ℤ_times n (shifted m u *ℤ pos d) (2 ^ t) i)
 
   -- the product of the test fits
-  pub test_fits : m ≡ pos 16777215 → ((pos 0 ≤ℤ (shifted m u *ℤ pos d)) × ((shifted m u *ℤ pos d) ≤ℤ n))
+  test_fits : m ≡ pos 16777215 → ((pos 0 ≤ℤ (shifted m u *ℤ pos d)) × ((shifted m u *ℤ pos d) ≤ℤ n))
   test_fits e = (subst (λ (z : ℤ). pos 0 ≤ℤ (shifted z u *ℤ pos d)) (sym e) (omega (arith, ints)), ≤ℤ_trans (≤ℤ_times (shifted m u) (int_div_euclid n (pos d)) d s.cell.low) (floor_low n d held.positive))
+
+-- a ratio q, its floor k, and what k settles to
+module _ (q : Ratio) (k m : ℤ) (u : ℕ) (f : SFits w64 k) (e : k ≡ int_div_euclid q.n (pos q.d)) (r : Settles (to_z w64 (of_z w64 k)) m u) where
+  s : Settles (int_div_euclid q.n (pos q.d)) m u
+  s = settles_here q.n k m q.d u f e r
+
+  made : to_z w32 (of_z w32 m) ≡ m
+  made = let b = r.small in plain32 m (omega arith)
+
+  -- the mark is normal
+  pub is_normal : u + q.t ≤ 32 → Normal (to_z w32 (of_z w32 m)) (u + q.t)
+  is_normal b = normal_at q.n q.d q.t q.held m u s _ made b
+
+  -- no mark at a scale beyond the greatest
+  pub too_coarse : 32 < u + q.t → None ≡ below q
+  too_coarse b = none_at q.n q.d q.t q.held m u s q.held.positive b
+
+  -- the mark, at less than the greatest
+  pub small_mark : (a : Sliding) → a.mantissa ≡ to_z w32 (of_z w32 m) → a.scale ≡ u + q.t → u + q.t ≤ 32 → (u + q.t < 32) ⊎ (to_z w32 (of_z w32 m) <ℤ pos 16777215) → Some a ≡ below q
+  small_mark a g h b o = some_at q.n q.d q.t q.held m u s q.held.positive a (g ∙ made) h (inside_at q.n q.d q.t q.held m u s b (smaller o))
+    where
+      smaller : (u + q.t < 32) ⊎ (to_z w32 (of_z w32 m) <ℤ pos 16777215) → shifted m (u + q.t) <ℤ pos 72057589742960640
+      smaller (inl p) = small_scale m (u + q.t) s.small p
+      smaller (inr p) = by_lt_z (pos (u + q.t)) (pos 32)
+          (λ w. small_scale m (u + q.t) s.small (omega (arith, ints)))
+          (λ w. small_size m (u + q.t) (subst (λ (z : ℤ). z <ℤ pos 16777215) made p) (omega (arith, ints)))
+
+  -- at the mantissa and the scale of the greatest mark: x d against n
+  module _ (x y : ℤ) (a : mag x < 2 ^ 63) (b : mag y < 2 ^ 63) (v : x ≡ shifted (to_z w32 (of_z w32 m)) u) (w : y ≡ pos q.d) (g : pos 16777215 ≤ℤ to_z w32 (of_z w32 m)) (h : u + q.t ≡ 32) where
+    at_top : m ≡ pos 16777215
+    at_top = let c = r.small in let z = made in omega (arith, ints)
+
+    plain : to_z w64 (of_z w64 x) *ℤ to_z w64 (of_z w64 y) ≡ shifted m u *ℤ pos q.d
+    plain = ap₂ ◌*ℤ◌ (to_z-of_z w64 x (record { sfits = a }) ∙ v ∙ ap (λ (z : ℤ). shifted z u) made) (to_z-of_z w64 y (record { sfits = b }) ∙ w)
+
+    pub product_fits : SFits w64 (to_z w64 (of_z w64 x) *ℤ to_z w64 (of_z w64 y))
+    product_fits = let c = test_fits q.n q.d q.t q.held m u s at_top in let z = q.held.bound in rw plain (omega (arith, ints))
+
+    pub beyond : to_z w64 (of_z w64 (to_z w64 (of_z w64 x) *ℤ to_z w64 (of_z w64 y))) <ℤ to_z w64 (of_z w64 q.n) → None ≡ below q
+    beyond l = let c = product_fits in let z = q.held.bound in over_at q.n q.d q.t q.held m u s q.held.positive at_top h (omega (arith, ints, plain))
+
+    pub top_mark : (k : Sliding) → k.mantissa ≡ to_z w32 (of_z w32 m) → k.scale ≡ u + q.t → to_z w64 (of_z w64 q.n) ≤ℤ to_z w64 (of_z w64 (to_z w64 (of_z w64 x) *ℤ to_z w64 (of_z w64 y))) → Some k ≡ below q
+    top_mark k i j l = let c = product_fits in let z = q.held.bound in some_at q.n q.d q.t q.held m u s q.held.positive k (i ∙ made) j (top_at q.n q.d q.t q.held m u s at_top h (omega (arith, ints, plain)))
 
 pub negate_shifted : (k m : ℤ) (s : ℕ) → k ≡ neg_ℤ m → shifted k s ≡ neg_ℤ (shifted m s)
 negate_shifted k m s e = ap (λ (z : ℤ). shifted z s) e ∙ ring (m ∷ pos (2 ^ s) ∷ []) (⊝ x0 ⊗ x1) (⊝ (x0 ⊗ x1)) refl

@@ -28,6 +28,11 @@ narrow_scale k a e h g =
     let q = l.2 in let p = pow_mono m in
     record { under = omega arith; full = λ z. omega arith; short = omega arith }
 
+pub scale_is : (k : ℤ) (a s : ℕ) → a ≡ nat_abs k → a < 2 ^ 63 → s ≡ 64 - count_leading_zeros 64 a - 24 → Scale k s
+scale_is k a s e h g = subst (Scale k) (sym g) (by_lt_z (pos 24) (pos (64 - count_leading_zeros 64 a))
+    (λ l. wide_scale k a e h (omega (arith, ints)))
+    (λ l. let z : 0 ≡ 64 - count_leading_zeros 64 a - 24 = omega (arith, ints) in subst (Scale k) z (narrow_scale k a e h (omega (arith, ints)))))
+
 pub shr_floor : (k : ℤ) (d : ℕ) → shr_z k d ≡ int_div_euclid k (pos d)
 shr_floor (pos a) d = refl
 shr_floor (negsuc a) d = refl

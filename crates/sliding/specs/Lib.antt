@@ -2,5 +2,6 @@ pub mod Form
 pub mod Cut
 pub mod Grid
 pub mod Marks
+pub mod Ratios
 pub mod Rules
 pub mod Slides

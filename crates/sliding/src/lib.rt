@@ -3,6 +3,7 @@
 
 mod arithmetic;
 mod mark;
+mod ratio;
 mod rounding;
 
 pub use mark::Sliding;

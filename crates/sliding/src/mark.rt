@@ -2,7 +2,7 @@
 ghost use Rattle.sliding.specs.Form.{Normal};
 
 // A mark of the sliding kind in its stored form: `mantissa` × 2^e with e = `scale` − 24.
-#[derive(Clone, Copy)]
+#[derive(Clone, Copy, PartialEq, Eq, Debug)]
 pub struct Sliding {
     pub mantissa: i32,
     pub scale: u32,

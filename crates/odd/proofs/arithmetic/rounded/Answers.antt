@@ -2,14 +2,11 @@ use Rattle.std.proofs.Common.{pos, ◌∙◌, arith}
 use borrow.Author.Differences.{ints}
 use Rattle.std.specs.Int.{int_div_euclid}
 use Rattle.kind.proofs.Plain.{plain_floor}
-use Rattle.odd.specs.Signs.{at_sign, count_inside, count_over, count_under}
+use Rattle.odd.specs.Signs.{at_sign, count_beyond, count_inside}
 use Rattle.odd.proofs.arithmetic.rounded.Goals as goal
 
-pub returns-then-n-gt65536 : goal.returns-then-n-gt65536
-returns-then-n-gt65536 c = count_over c.args.n (omega (arith, ints))
-
-pub returns-then-n-ltminus65536 : goal.returns-then-n-ltminus65536
-returns-then-n-ltminus65536 c = count_under c.args.n (omega (arith, ints))
+pub returns-then-unsigned_abs-gt65536 : goal.returns-then-unsigned_abs-gt65536
+returns-then-unsigned_abs-gt65536 c = count_beyond c.args.n (let e = c.unsigned_abs.ensures.value in omega (arith, ints))
 
 pub returns : goal.returns
 returns c =

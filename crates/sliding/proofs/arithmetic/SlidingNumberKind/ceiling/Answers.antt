@@ -1,15 +1,9 @@
 use Rattle.std.proofs.Common.{ℤ, pos, neg_ℤ, sym, ap, ◌∙◌, w64}
 use Rattle.std.proofs.lemmas.Int.{to_z-of_z}
 use Rattle.std.specs.Int.{int_div_euclid}
-use Rattle.sliding.proofs.Ops.{ceil_value, minus_fits, outer_fits, plain_ceil8}
+use Rattle.sliding.proofs.Ops.{ceil_value, plain_ceil8}
 use Rattle.sliding.specs.Grid.{sliding_grid}
 use Rattle.sliding.proofs.arithmetic.SlidingNumberKind.ceiling.Goals as goal
-
-pub overflow_sub-result : goal.overflow_sub-result
-overflow_sub-result c = minus_fits _ c.units.result (to_z-of_z w64 _ (record { sfits = c.units.type_inv })) c.units.ensures.bound
-
-pub overflow_sub-result-2 : goal.overflow_sub-result-2
-overflow_sub-result-2 c = outer_fits _ c.units.result (to_z-of_z w64 _ (record { sfits = c.units.type_inv })) c.units.ensures.bound
 
 pub returns : goal.returns
 returns c =
