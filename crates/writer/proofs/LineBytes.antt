@@ -1,15 +1,19 @@
 -- The bytes of one line, in parts.
-use Rattle.std.proofs.Common.{◌≡◌, ℕ, ◌+◌, ◌≤◌, ltb, List, ◌++◌, length, sym, ap, ◌∙◌, subst, ap₂, arith, length-append}
+use Rattle.std.proofs.Common.{◌≡◌, ℕ, ◌+◌, ◌≤◌, Bool, true, false, ltb, List, ◌++◌, length, Option, refl, sym, ap, ◌∙◌, subst, ap₂, arith, length-append}
 use Rattle.leb.specs.Numbers.{encode}
-use Rattle.line.specs.Operations.{arity, first, operation, second, third}
+use Rattle.line.specs.Operations.{arity, first, held, operation, second, third}
 use Rattle.line.specs.declared.line.Line.{Line}
 use Rattle.writer.proofs.Overlay.{length_written, written_append}
-use Rattle.writer.specs.Writing.{line_bytes, operand_bytes, written}
+use Rattle.writer.specs.Writing.{held_bytes, line_bytes, operand_bytes, written}
+
+held_is : (b : Bool) (n : ℕ) → held_bytes (held b n) ≡ operand_bytes b n
+held_is true n = refl
+held_is false n = refl
 
 -- by the numbers that the code has at hand
-pub line_is : (l : Line) (op n x y z : ℕ) → op ≡ operation l → n ≡ arity op → x ≡ first l → y ≡ second l → z ≡ third l
-    → line_bytes l ≡ encode op ++ (encode x ++ (operand_bytes (ltb 1 n) y ++ operand_bytes (ltb 2 n) z))
-line_is l op n x y z eo en ex ey ez = sym (rw (en, eo, ex, ey, ez))
+pub line_is : (l : Line) (op x : ℕ) (y z : Option ℕ) → op ≡ operation l → x ≡ first l → y ≡ held (ltb 1 (arity (operation l))) (second l) → z ≡ held (ltb 2 (arity (operation l))) (third l)
+    → line_bytes l ≡ encode op ++ (encode x ++ (held_bytes y ++ held_bytes z))
+line_is l op x y z eo ex ey ez = sym (rw (eo, ex, ey, ez, held_is (ltb 1 (arity (operation l))) (second l), held_is (ltb 2 (arity (operation l))) (third l)))
 
 pub four : (a b c d : List ℕ) → length (a ++ (b ++ (c ++ d))) ≡ length a + length b + length c + length d
 four a b c d = simp length-append (omega arith)
@@ -45,17 +49,17 @@ next_room l op x out o1 at t1 e f room b s = let n = four (encode (operation l))
     omega (arith, room, n, k, j, o)
 
 -- ---- a line, number by number: l's operation and first operand are written, then its second and third
-module _ (l : Line) (op n x y z : ℕ) (eo : op ≡ operation l) (en : n ≡ arity op) (ex : x ≡ first l) (ey : y ≡ second l) (ez : z ≡ third l)
+module _ (l : Line) (op x : ℕ) (y z : Option ℕ) (eo : op ≡ operation l) (ex : x ≡ first l) (ey : y ≡ held (ltb 1 (arity (operation l))) (second l)) (ez : z ≡ held (ltb 2 (arity (operation l))) (third l))
     (out o1 o2 : List ℕ) (at t1 t2 : ℕ) (room : at + length (line_bytes l) ≤ length out)
     (b1 : o1 ≡ written out at (encode op)) (s1 : t1 ≡ at + length (encode op)) (b2 : o2 ≡ written o1 t1 (encode x)) (s2 : t2 ≡ t1 + length (encode x)) where
   abbrev C : List ℕ
-  C = operand_bytes (ltb 1 n) y
+  C = held_bytes y
 
   abbrev D : List ℕ
-  D = operand_bytes (ltb 2 n) z
+  D = held_bytes z
 
   is : line_bytes l ≡ encode op ++ (encode x ++ (C ++ D))
-  is = line_is l op n x y z eo en ex ey ez
+  is = line_is l op x y z eo ex ey ez
 
   first_part : Part out at (encode op) (encode x ++ (C ++ D)) o1 t1
   first_part = record { room = subst (λ bs. at + length bs ≤ length out) is room; bytes = b1; end = s1 }

@@ -1,45 +1,46 @@
 // Writing lines and formulas.
-ghost use Rattle.std.specs.Prelude.{◌≡◌, ◌+◌, ◌*◌, ◌≤◌, length};
+ghost use Rattle.std.specs.Prelude.{◌≡◌, ◌+◌, ◌*◌, ◌≤◌, length, nat_lt, IfOk};
 ghost use Rattle.line.specs.Operations as lines;
 ghost use Rattle.writer.specs.Trips.{FormulaTrips};
-ghost use Rattle.writer.specs.Writing.{operand_bytes, line_bytes, lines_bytes, formula_bytes, written, needed, filled};
+ghost use Rattle.writer.specs.Writing.{held_bytes, line_bytes, lines_bytes, formula_bytes, written, needed, filled};
 
 use crate::numbers::{put, width};
 use fault::{Cause, Fault};
-use line::{Line, arity};
+use line::Line;
 
-fn width_if(wanted: bool, n: u64) -> usize
-    ensures value { result ≡ length (operand_bytes wanted n) }
+fn width_if(n: Option<u64>) -> usize
+    ensures value { result ≡ length (held_bytes n) }
     ensures bound { result ≤ 10 }
 {
-    if wanted { width(n) } else { 0 }
+    n.map_or(0, width)
 }
 
-fn put_if(wanted: bool, out: &mut [u8], at: usize, n: u64) -> usize
-    requires { at + length (operand_bytes wanted n) ≤ length out.old }
-    ensures bytes { out.new ≡ written out.old at (operand_bytes wanted n) }
-    ensures end { result ≡ at + length (operand_bytes wanted n) }
+fn put_if(out: &mut [u8], at: usize, n: Option<u64>) -> usize
+    requires { at + length (held_bytes n) ≤ length out.old }
+    ensures bytes { out.new ≡ written out.old at (held_bytes n) }
+    ensures end { result ≡ at + length (held_bytes n) }
 {
-    if wanted { put(out, at, n) } else { at }
+    match n {
+        Some(n) => put(out, at, n),
+        None => at,
+    }
 }
 
 fn line_width(line: Line) -> usize
     ensures value { result ≡ length (line_bytes line) }
     ensures bound { result ≤ 40 }
 {
-    let operation = line.operation();
-    let operands = arity(operation);
-    width(u64::from(operation))
+    width(u64::from(line.operation()))
         + width(line.first())
-        + width_if(operands > 1, line.second())
-        + width_if(operands > 2, line.third())
+        + width_if(line.second())
+        + width_if(line.third())
 }
 
-// The numbers of a line, its operation apart.
-fn operands_of(line: Line) -> (u64, u64, u64)
+// The operands of a line, as they are written.
+fn operands_of(line: Line) -> (u64, Option<u64>, Option<u64>)
     ensures first { result.0 ≡ lines.first line }
-    ensures second { result.1 ≡ lines.second line }
-    ensures third { result.2 ≡ lines.third line }
+    ensures second { result.1 ≡ lines.held (nat_lt 1 (lines.arity (lines.operation line))) (lines.second line) }
+    ensures third { result.2 ≡ lines.held (nat_lt 2 (lines.arity (lines.operation line))) (lines.third line) }
 {
     (line.first(), line.second(), line.third())
 }
@@ -49,13 +50,11 @@ fn put_line(out: &mut [u8], at: usize, line: Line) -> usize
     ensures bytes { out.new ≡ written out.old at (line_bytes line) }
     ensures end { result ≡ at + length (line_bytes line) }
 {
-    let operation = line.operation();
-    let operands = arity(operation);
-    let at = put(out, at, u64::from(operation));
     let (a, b, c) = operands_of(line);
+    let at = put(out, at, u64::from(line.operation()));
     let at = put(out, at, a);
-    let at = put_if(operands > 1, out, at, b);
-    put_if(operands > 2, out, at, c)
+    let at = put_if(out, at, b);
+    put_if(out, at, c)
 }
 
 // How many bytes a formula takes.
@@ -81,29 +80,29 @@ fn put_lines(out: &mut [u8], at: usize, lines: &[Line])
     }
 }
 
+// How many bytes the lines take, unless they are no formula or there are too few to write to.
+fn room_for(lines: &[Line], out: &[u8]) -> Result<usize, Fault>
+    ensures answer { result ≡ needed lines.now out.now }
+    ensures fits { IfOk result (λ _. length (formula_bytes lines.now) ≤ length out.now) }
+{
+    if lines.is_empty() {
+        return Err(Cause::NoLine.at(0));
+    }
+    if lines.len() > 64 {
+        return Err(Cause::Count.at(0));
+    }
+    let needed = formula_width(lines);
+    if out.len() < needed {
+        return Err(Cause::Room.at(needed));
+    }
+    Ok(needed)
+}
+
 fn write_steps(lines: &[Line], out: &mut [u8]) -> Result<usize, Fault>
     ensures answer { result ≡ needed lines.now out.old }
     ensures bytes { out.new ≡ filled result lines.now out.old }
 {
-    if lines.len() == 0 {
-        return Err(Fault {
-            cause: Cause::NoLine,
-            place: 0,
-        });
-    }
-    if lines.len() > 64 {
-        return Err(Fault {
-            cause: Cause::Count,
-            place: 0,
-        });
-    }
-    let needed = formula_width(lines);
-    if out.len() < needed {
-        return Err(Fault {
-            cause: Cause::Room,
-            place: needed,
-        });
-    }
+    let needed = room_for(lines, out)?;
     let at = put(out, 0, lines.len() as u64);
     put_lines(out, at, lines);
     Ok(needed)
