@@ -2,38 +2,20 @@
 ghost use Rattle.std.specs.Prelude.{◌≡◌, ◌+◌, ◌*◌, ◌≤◌, length, nat_lt, IfOk};
 ghost use Rattle.line.specs.Operations as lines;
 ghost use Rattle.writer.specs.Trips.{FormulaTrips};
-ghost use Rattle.writer.specs.Writing.{held_bytes, line_bytes, lines_bytes, formula_bytes, written, needed, filled};
+ghost use Rattle.writer.specs.Writing.{line_bytes, lines_bytes, formula_bytes, written, needed, filled};
 
 use crate::numbers::{put, width};
 use fault::{Cause, Fault};
 use line::Line;
 
-fn width_if(n: Option<u64>) -> usize
-    ensures value { result ≡ length (held_bytes n) }
-    ensures bound { result ≤ 10 }
-{
-    n.map_or(0, width)
-}
-
-fn put_if(out: &mut [u8], at: usize, n: Option<u64>) -> usize
-    requires { at + length (held_bytes n) ≤ length out.old }
-    ensures bytes { out.new ≡ written out.old at (held_bytes n) }
-    ensures end { result ≡ at + length (held_bytes n) }
-{
-    match n {
-        Some(n) => put(out, at, n),
-        None => at,
-    }
-}
-
 fn line_width(line: Line) -> usize
     ensures value { result ≡ length (line_bytes line) }
     ensures bound { result ≤ 40 }
 {
-    width(u64::from(line.operation()))
-        + width(line.first())
-        + width_if(line.second())
-        + width_if(line.third())
+    width(Some(u64::from(line.operation())))
+        + width(Some(line.first()))
+        + width(line.second())
+        + width(line.third())
 }
 
 // The operands of a line, as they are written.
@@ -51,10 +33,10 @@ fn put_line(out: &mut [u8], at: usize, line: Line) -> usize
     ensures end { result ≡ at + length (line_bytes line) }
 {
     let (a, b, c) = operands_of(line);
-    let at = put(out, at, u64::from(line.operation()));
-    let at = put(out, at, a);
-    let at = put_if(out, at, b);
-    put_if(out, at, c)
+    let at = put(out, at, Some(u64::from(line.operation())));
+    let at = put(out, at, Some(a));
+    let at = put(out, at, b);
+    put(out, at, c)
 }
 
 // How many bytes a formula takes.
@@ -62,7 +44,7 @@ fn formula_width(lines: &[Line]) -> usize
     requires { length lines.now ≤ 64 }
     ensures { result ≡ length (formula_bytes lines.now) }
 {
-    let mut total = width(lines.len() as u64);
+    let mut total = width(Some(lines.len() as u64));
     for line in lines {
         total += line_width(*line);
     }
@@ -103,7 +85,7 @@ fn write_steps(lines: &[Line], out: &mut [u8]) -> Result<usize, Fault>
     ensures bytes { out.new ≡ filled result lines.now out.old }
 {
     let needed = room_for(lines, out)?;
-    let at = put(out, 0, lines.len() as u64);
+    let at = put(out, 0, Some(lines.len() as u64));
     put_lines(out, at, lines);
     Ok(needed)
 }

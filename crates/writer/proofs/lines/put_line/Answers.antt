@@ -8,17 +8,17 @@ put-at-requires c = head_room c.args.line _ c.args.out.now c.args.at (c.from.ens
 pub put-at-requires-2 : goal.put-at-requires-2
 put-at-requires-2 c = next_room c.args.line _ _ c.args.out.now _ c.args.at _ (c.from.ensures ∙ c.operation.ensures) c.operands_of-a.ensures.first c.requires c.put-at.ensures.bytes c.put-at.ensures.end
 
-pub put_if-at-requires : goal.put_if-at-requires
-put_if-at-requires c = third_room c.args.line _ _ _ _ (c.from.ensures ∙ c.operation.ensures) c.operands_of-a.ensures.first c.operands_of-a.ensures.second refl
+pub put-at-requires-3 : goal.put-at-requires-3
+put-at-requires-3 c = third_room c.args.line _ _ _ _ (c.from.ensures ∙ c.operation.ensures) c.operands_of-a.ensures.first c.operands_of-a.ensures.second refl
     _ _ _ _ _ _ c.requires c.put-at.ensures.bytes c.put-at.ensures.end c.put-at-2.ensures.bytes c.put-at-2.ensures.end
 
-pub put_if-requires : goal.put_if-requires
-put_if-requires c = fourth_room c.args.line _ _ _ _ (c.from.ensures ∙ c.operation.ensures) c.operands_of-a.ensures.first c.operands_of-a.ensures.second c.operands_of-a.ensures.third
-    _ _ _ _ _ _ c.requires c.put-at.ensures.bytes c.put-at.ensures.end c.put-at-2.ensures.bytes c.put-at-2.ensures.end _ _ c.put_if-at.ensures.bytes c.put_if-at.ensures.end
+pub put-requires : goal.put-requires
+put-requires c = fourth_room c.args.line _ _ _ _ (c.from.ensures ∙ c.operation.ensures) c.operands_of-a.ensures.first c.operands_of-a.ensures.second c.operands_of-a.ensures.third
+    _ _ _ _ _ _ c.requires c.put-at.ensures.bytes c.put-at.ensures.end c.put-at-2.ensures.bytes c.put-at-2.ensures.end _ _ c.put-at-3.ensures.bytes c.put-at-3.ensures.end
 
 pub returns : goal.returns
 returns c =
     let p = whole_line c.args.line _ _ _ _ (c.from.ensures ∙ c.operation.ensures) c.operands_of-a.ensures.first c.operands_of-a.ensures.second c.operands_of-a.ensures.third
-    _ _ _ _ _ _ c.requires c.put-at.ensures.bytes c.put-at.ensures.end c.put-at-2.ensures.bytes c.put-at-2.ensures.end _ _ c.put_if-at.ensures.bytes c.put_if-at.ensures.end
-    _ _ c.put_if.ensures.bytes c.put_if.ensures.end in
+    _ _ _ _ _ _ c.requires c.put-at.ensures.bytes c.put-at.ensures.end c.put-at-2.ensures.bytes c.put-at-2.ensures.end _ _ c.put-at-3.ensures.bytes c.put-at-3.ensures.end
+    _ _ c.put.ensures.bytes c.put.ensures.end in
     record { bytes = p.0; end = p.1 }
