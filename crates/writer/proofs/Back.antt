@@ -13,6 +13,8 @@ use Rattle.line.specs.Operations.{arity, folded, line_of, unfolded}
 use Rattle.line.specs.declared.line.Line.{Line}
 use Rattle.reader.proofs.Chains.{placed_ok}
 use Rattle.reader.specs.Reading.{count_at, formula_at, line_at, lines_from, number_at, operand_at, placed}
+use Rattle.writer.proofs.There.{there}
+use Rattle.writer.specs.Trips.{FormulaTrips}
 use Rattle.writer.specs.Writing.{formula_bytes, line_bytes, lines_bytes, operand_bytes}
 
 -- ---- a line's numbers are those it was made of
@@ -122,3 +124,6 @@ module _ (bytes : List ℕ) (all : Bytes bytes) where
           go true t q = absurd (err_ok q)
           go false true q = absurd (err_ok q)
           go false false q = ok_is q
+
+pub trips : FormulaTrips
+trips = record { there = there; back = λ bytes ls all e. back bytes all ls e }

@@ -1,10 +1,10 @@
 // Writing lines and formulas.
-ghost use Rattle.std.specs.Prelude.{◌≡◌, ◌+◌, ◌*◌, ◌≤◌, length, nat_lt, IfOk};
-ghost use Rattle.line.specs.Operations as lines;
+ghost use Rattle.std.specs.Prelude.{◌≡◌, ◌+◌, ◌*◌, ◌≤◌, length, IfOk};
 ghost use Rattle.writer.specs.Trips.{FormulaTrips};
-ghost use Rattle.writer.specs.Writing.{line_bytes, lines_bytes, formula_bytes, written, needed, filled};
+ghost use Rattle.writer.specs.Writing.{line_bytes, lines_bytes, formula_bytes, needed, filled};
 
-use crate::numbers::{put, width};
+use crate::numbers::width;
+use crate::pen::Pen;
 use fault::{Cause, Fault};
 use line::Line;
 
@@ -18,27 +18,6 @@ fn line_width(line: Line) -> usize
         + width(line.third())
 }
 
-// The operands of a line, as they are written.
-fn operands_of(line: Line) -> (u64, Option<u64>, Option<u64>)
-    ensures first { result.0 ≡ lines.first line }
-    ensures second { result.1 ≡ lines.held (nat_lt 1 (lines.arity (lines.operation line))) (lines.second line) }
-    ensures third { result.2 ≡ lines.held (nat_lt 2 (lines.arity (lines.operation line))) (lines.third line) }
-{
-    (line.first(), line.second(), line.third())
-}
-
-fn put_line(out: &mut [u8], at: usize, line: Line) -> usize
-    requires { at + length (line_bytes line) ≤ length out.old }
-    ensures bytes { out.new ≡ written out.old at (line_bytes line) }
-    ensures end { result ≡ at + length (line_bytes line) }
-{
-    let (a, b, c) = operands_of(line);
-    let at = put(out, at, Some(u64::from(line.operation())));
-    let at = put(out, at, Some(a));
-    let at = put(out, at, b);
-    put(out, at, c)
-}
-
 // How many bytes a formula takes.
 fn formula_width(lines: &[Line]) -> usize
     requires { length lines.now ≤ 64 }
@@ -49,17 +28,6 @@ fn formula_width(lines: &[Line]) -> usize
         total += line_width(*line);
     }
     total
-}
-
-// Writes lines from a place on.
-fn put_lines(out: &mut [u8], at: usize, lines: &[Line])
-    requires { at + length (lines_bytes lines.now) ≤ length out.old }
-    ensures { out.new ≡ written out.old at (lines_bytes lines.now) }
-{
-    let mut place = at;
-    for line in lines {
-        place = put_line(out, place, *line);
-    }
 }
 
 // How many bytes the lines take, unless they are no formula or there are too few to write to.
@@ -80,23 +48,18 @@ fn room_for(lines: &[Line], out: &[u8]) -> Result<usize, Fault>
     Ok(needed)
 }
 
-fn write_steps(lines: &[Line], out: &mut [u8]) -> Result<usize, Fault>
-    ensures answer { result ≡ needed lines.now out.old }
-    ensures bytes { out.new ≡ filled result lines.now out.old }
-{
-    let needed = room_for(lines, out)?;
-    let at = put(out, 0, Some(lines.len() as u64));
-    put_lines(out, at, lines);
-    Ok(needed)
-}
-
 // Writes the bytes of a formula of 1 to 64 lines, and answers how many they are; no other byte changes. Too few bytes to write to
 // are refused with the number needed as place. What is written is read back as the same lines, and bytes that were read as lines
 // are what those lines write.
+#[tactic(auto, using(crate::proofs::Back::trips))]
 pub fn write(lines: &[Line], out: &mut [u8]) -> Result<usize, Fault>
     ensures answer { result ≡ needed lines.now out.old }
     ensures bytes { out.new ≡ filled result lines.now out.old }
     ensures trips { FormulaTrips }
 {
-    write_steps(lines, out)
+    let needed = room_for(lines, out)?;
+    let mut pen = Pen { out, at: 0 };
+    pen.put(Some(lines.len() as u64));
+    pen.put_lines(lines);
+    Ok(needed)
 }
