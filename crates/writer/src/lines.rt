@@ -23,11 +23,8 @@ fn formula_width(lines: &[Line]) -> usize
     requires { length lines.now ≤ 64 }
     ensures { result ≡ length (formula_bytes lines.now) }
 {
-    let mut total = width(Some(lines.len() as u64));
-    for line in lines {
-        total += line_width(*line);
-    }
-    total
+    let lines_width: usize = lines.iter().map(|line| line_width(*line)).sum();
+    width(Some(lines.len() as u64)) + lines_width
 }
 
 // How many bytes the lines take, unless they are no formula or there are too few to write to.
