@@ -30,8 +30,11 @@ fn joined(groups: &[u8]) -> u64
 fn judged(groups: &[u8]) -> Option<u32>
     ensures { Judged groups.now result }
 {
+    if groups.len() > 5 {
+        return None;
+    }
     let value = joined(groups);
-    if groups.len() > 5 || value > LARGEST {
+    if value > LARGEST {
         return None;
     }
     if let [_, .., 0] = groups {
