@@ -60,6 +60,13 @@ fn first_number(bytes: &[u8]) -> Result<(u32, usize), Cause>
     Ok((n, groups.len()))
 }
 
+// The bytes from a place on; none where it lies beyond the end.
+fn bytes_from(bytes: &[u8], place: Place) -> &[u8]
+    ensures { result.now ≡ drop place.at bytes.now }
+{
+    bytes.get(place.at..).unwrap_or_default()
+}
+
 // The number at a place, which then stands behind it. A refusal leaves the place. What is written as a number is read back, and
 // what was read has no other form.
 #[tactic(auto, using(crate::proofs::Trip::round_trips))]
@@ -68,8 +75,7 @@ pub fn number(bytes: &[u8], place: &mut Place) -> Result<u32, Cause>
     ensures place { MatchResult result (λ _. place.new.at ≡ place.old.at + size (drop place.old.at bytes.now)) (λ _. place.new ≡ place.old) }
     ensures trips { RoundTrips }
 {
-    let rest = bytes.get(place.at..).unwrap_or_default();
-    let (n, size) = first_number(rest)?;
+    let (n, size) = first_number(bytes_from(bytes, *place))?;
     place.at += size;
     Ok(n)
 }
