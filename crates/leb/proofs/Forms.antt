@@ -1,7 +1,5 @@
 -- The definitions at a last group and at another.
-use Rattle.std.proofs.Common.{◌≡◌, ℕ, ◌+◌, ◌*◌, ◌%◌, ◌^◌, ◌<◌, ◌≤◌, true, List, [], ◌∷◌, ap, ◌∙◌, ⊎_elim, mod-eq_of_lt, mul_comm, mul-add, arith, pow_mono, pow-add}
-use lib.Bits.{bit_and, bit_or}
-use Rattle.std.proofs.lemmas.Nat.{and_mask, mod_below, or_comm, or_shifted, shl_below}
+use Rattle.std.proofs.Common.{◌≡◌, ℕ, ◌+◌, ◌*◌, ◌%◌, ◌^◌, ◌<◌, ◌≤◌, true, List, [], ◌∷◌, ⊎_elim, mul-add, arith, pow-add}
 use Rattle.std.proofs.lemmas.Bool.{cases_lt, le-ltb, lt-ltb}
 use Rattle.leb.specs.Numbers.{ends, last_group, size, value}
 
@@ -42,14 +40,3 @@ large (b ∷ bs) e h =
     let p : 2 ^ (7 * size bs + 7) ≡ 2 ^ (7 * size bs) * 128 = pow-add 2 (7 * size bs) 7 in
     rw (size_next b bs le, value_next b bs le, mul-add 7 (size bs) 1, p) (omega arith))
     (cases_lt b 128)
-
--- a group is joined above the bits of v
-pub join_group : (v s b low : ℕ) → low ≡ bit_and b 127 → s < 35 → v < 2 ^ s → bit_or v ((low * 2 ^ s) % 2 ^ 64) ≡ v + 2 ^ s * (b % 128)
-join_group v s b low is hs hv =
-    let low-is : low ≡ b % 128 = is ∙ and_mask b 7 in
-    let small : low < 2 ^ 7 = omega (arith, low-is, mod_below b 128 (omega arith)) in
-    let fits : low * 2 ^ s < 2 ^ 64 = omega (arith, shl_below low 7 s small, pow_mono {i = 7 + s} {j = 64} (omega arith)) in
-    ap (λ (x : ℕ). bit_or v x) (mod-eq_of_lt fits)
-    ∙ (or_comm v (low * 2 ^ s)
-    ∙ (or_shifted low s v hv
-    ∙ rw (← low-is) (omega (arith, mul_comm low (2 ^ s)))))

@@ -1,3 +1,4 @@
 pub mod Forms
+pub mod Joining
 pub mod Reading
 pub mod Trip

@@ -1,6 +1,6 @@
 // Reading a number.
-ghost use Rattle.std.specs.Prelude.{◌≡◌, ◌+◌, ◌*◌, ◌%◌, ◌^◌, ◌<◌, drop, MatchResult};
-ghost use Rattle.leb.specs.Groups.{Judged, Taken};
+ghost use Rattle.std.specs.Prelude.{◌≡◌, ◌+◌, ◌≤◌, length, drop, nat_lt, position, IfOk, MatchResult};
+ghost use Rattle.leb.specs.Groups.{joined, Judged};
 ghost use Rattle.leb.specs.Numbers.{decode, size};
 ghost use Rattle.leb.specs.Trips.{RoundTrips};
 
@@ -9,100 +9,73 @@ use fault::Cause;
 
 const LARGEST: u64 = 2_147_483_647;
 
-// One group more, at a shift below 35.
-fn joined(value: u64, shift: u32, byte: u8) -> u64
-    requires { (shift < 35) × (value < 2 ^ shift) }
-    ensures { result ≡ value + 2 ^ shift * (byte % 128) }
+// Where the last group of a number stands, if it is there.
+fn last_group(bytes: &[u8]) -> Option<usize>
+    ensures { result ≡ position (λ b. nat_lt b 128) bytes.now }
 {
-    value | (u64::from(byte & 0x7f) << shift)
+    bytes.iter().position(|byte| *byte < 128)
 }
 
-// What is read of one number: its groups so far joined, low group first, and where the next one goes. A group past the fifth is
-// only noted, since the number is then too large or not in its shortest form.
-#[derive(Clone, Copy)]
-pub struct Groups {
-    value: u64,
-    shift: u32,
-    breach: bool,
-}
-
-impl Groups {
-    fn take(self, byte: u8) -> Groups
-        requires { self.shift < 35 → self.value < 2 ^ self.shift }
-        ensures { Taken self.value self.shift self.breach byte result.value result.shift result.breach }
-    {
-        let Groups {
-            value,
-            shift,
-            breach,
-        } = self;
-        if shift >= 35 {
-            return Groups {
-                value,
-                shift,
-                breach: true,
-            };
-        }
-        let value = joined(value, shift, byte);
-        if byte < 128 {
-            return Groups {
-                value,
-                shift,
-                breach,
-            };
-        }
-        Groups {
-            value,
-            shift: shift + 7,
-            breach,
-        }
-    }
-
-    // The number whose last group is `last`, unless it is too large or not in its shortest form.
-    fn number(self, last: u8) -> Option<u32>
-        ensures { Judged self.value self.shift self.breach last result }
-    {
-        if self.breach || self.value > LARGEST {
-            return None;
-        }
-        if last == 0 && self.shift > 0 {
-            return None;
-        }
-        Some(self.value as u32)
-    }
-}
-
-fn number_steps(bytes: &[u8], place: &mut Place) -> Result<u32, Cause>
-    ensures value { result ≡ decode (drop place.old.at bytes.now) }
-    ensures place { MatchResult result (λ _. place.new.at ≡ place.old.at + size (drop place.old.at bytes.now)) (λ _. place.new ≡ place.old) }
+// What groups join to, low group first.
+fn joined(groups: &[u8]) -> u64
+    ensures { length groups.now ≤ 5 → result ≡ joined groups.now }
 {
-    let mut at = place.at;
-    let mut groups = Groups {
-        value: 0,
-        shift: 0,
-        breach: false,
+    groups
+        .iter()
+        .rev()
+        .fold(0, |value, byte| value << 7 | u64::from(byte & 0x7f))
+}
+
+// The number of these groups, unless they are too many, it is too large or its last group is a 0 that is not its only one.
+fn judged(groups: &[u8]) -> Option<u32>
+    ensures { Judged groups.now result }
+{
+    if groups.len() > 5 {
+        return None;
+    }
+    let value = joined(groups);
+    if value > LARGEST {
+        return None;
+    }
+    if let [_, .., 0] = groups {
+        return None;
+    }
+    Some(value as u32)
+}
+
+// The number that bytes begin with, and how many they are.
+#[tactic(auto, using(crate::proofs::Reading::early, crate::proofs::Reading::refused, crate::proofs::Reading::size_is))]
+fn first_number(bytes: &[u8]) -> Result<(u32, usize), Cause>
+    ensures value { MatchResult result (λ p. decode bytes.now ≡ Ok p.0) (λ e. decode bytes.now ≡ Err e) }
+    ensures size { IfOk result (λ p. p.1 ≡ size bytes.now) }
+    ensures fits { IfOk result (λ p. p.1 ≤ length bytes.now) }
+{
+    let Some(last) = last_group(bytes) else {
+        return Err(Cause::Early);
     };
-    while at < bytes.len() {
-        let byte = bytes[at];
-        at += 1;
-        groups = groups.take(byte);
-        if byte < 128 {
-            let Some(n) = groups.number(byte) else {
-                return Err(Cause::Form);
-            };
-            place.at = at;
-            return Ok(n);
-        }
-    }
-    Err(Cause::Early)
+    let groups = &bytes[..=last];
+    let Some(n) = judged(groups) else {
+        return Err(Cause::Form);
+    };
+    Ok((n, groups.len()))
+}
+
+// The bytes from a place on; none where it lies beyond the end.
+fn bytes_from(bytes: &[u8], place: Place) -> &[u8]
+    ensures { result.now ≡ drop place.at bytes.now }
+{
+    bytes.get(place.at..).unwrap_or_default()
 }
 
 // The number at a place, which then stands behind it. A refusal leaves the place. What is written as a number is read back, and
 // what was read has no other form.
+#[tactic(auto, using(crate::proofs::Trip::round_trips))]
 pub fn number(bytes: &[u8], place: &mut Place) -> Result<u32, Cause>
     ensures value { result ≡ decode (drop place.old.at bytes.now) }
     ensures place { MatchResult result (λ _. place.new.at ≡ place.old.at + size (drop place.old.at bytes.now)) (λ _. place.new ≡ place.old) }
     ensures trips { RoundTrips }
 {
-    number_steps(bytes, place)
+    let (n, size) = first_number(bytes_from(bytes, *place))?;
+    place.at += size;
+    Ok(n)
 }

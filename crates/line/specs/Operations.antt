@@ -1,5 +1,5 @@
 -- Lines as numbers: the operation, and the operands as they are written.
-use Rattle.std.specs.Prelude.{cond, ◌%◌, ◌*◌, ◌+◌, ◌/◌, ℕ, eqb, ltb, negsuc, pos, ℤ}
+use Rattle.std.specs.Prelude.{Bool, true, false, Some, None, Option, cond, ◌%◌, ◌*◌, ◌+◌, ◌/◌, ℕ, eqb, ltb, negsuc, pos, ℤ}
 use Rattle.line.specs.declared.line.Line.{Line}
 use Rattle.line.specs.declared.line.Line.TheVariants.{Branch, Channel, Constant, Difference, Greater, Lesser, Magnitude, Product, Quotient, Square, Sum}
 
@@ -67,6 +67,11 @@ third (Magnitude l) = 0
 third (Greater l r) = 0
 third (Lesser l r) = 0
 third (Branch s q r) = r
+
+-- an operand that may not be there
+abbrev pub held : Bool → ℕ → Option ℕ
+held true n = Some n
+held false n = None
 
 -- the line with these numbers
 abbrev pub line_of : ℕ → ℕ → ℕ → ℕ → Line

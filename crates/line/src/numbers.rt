@@ -1,5 +1,6 @@
-// The numbers that a line is written as.
-ghost use Rattle.std.specs.Prelude.{◌≡◌, ◌<◌, ◌^◌};
+// The numbers that a line is written as. An operation goes by its number in the bytes, since any u32 is taken where an enum would
+// refuse some.
+ghost use Rattle.std.specs.Prelude.{◌≡◌, ◌<◌, ◌^◌, nat_lt, unwrap_or};
 ghost use Rattle.line.specs.Operations.{folded, unfolded};
 ghost use Rattle.line.specs.Operations as lines;
 
@@ -75,7 +76,7 @@ impl Line {
         }
     }
 
-    // The operands as they are written, 0 where there is none.
+    // The operands as they are written; some operations have no second, and most no third.
     pub fn first(self) -> u64
         ensures { result ≡ lines.first self }
     {
@@ -94,27 +95,29 @@ impl Line {
         }
     }
 
-    pub fn second(self) -> u64
-        ensures { result ≡ lines.second self }
+    pub fn second(self) -> Option<u64>
+        ensures value { unwrap_or result 0 ≡ lines.second self }
+        ensures there { result ≡ lines.held (nat_lt 1 (lines.arity (lines.operation self))) (lines.second self) }
     {
         match self {
-            Line::Channel(_) | Line::Constant(_) | Line::Square(_) | Line::Magnitude(_) => 0,
+            Line::Channel(_) | Line::Constant(_) | Line::Square(_) | Line::Magnitude(_) => None,
             Line::Sum(_, r)
             | Line::Difference(_, r)
             | Line::Product(_, r)
             | Line::Quotient(_, r)
             | Line::Greater(_, r)
             | Line::Lesser(_, r)
-            | Line::Branch(_, r, _) => r as u64,
+            | Line::Branch(_, r, _) => Some(r as u64),
         }
     }
 
-    pub fn third(self) -> u64
-        ensures { result ≡ lines.third self }
+    pub fn third(self) -> Option<u64>
+        ensures value { unwrap_or result 0 ≡ lines.third self }
+        ensures there { result ≡ lines.held (nat_lt 2 (lines.arity (lines.operation self))) (lines.third self) }
     {
         match self {
-            Line::Branch(_, _, r) => r as u64,
-            _ => 0,
+            Line::Branch(_, _, r) => Some(r as u64),
+            _ => None,
         }
     }
 }

@@ -12,12 +12,10 @@ use line::{Line, arity, line_of};
 fn operand(bytes: &[u8], place: &mut Place, line: usize) -> Result<u32, Fault>
     ensures { Stands (reading.number_at bytes.now place.old.at line) result place.old.at place.new.at }
 {
-    match number(bytes, place) {
-        Ok(n) => Ok(n),
-        Err(cause) => Err(Fault { cause, place: line }),
-    }
+    number(bytes, place).map_err(|cause| cause.at(line))
 }
 
+// An operand that the operation may not have: 0 then. One function for both, since an `if` at each call is longer.
 fn operand_if(wanted: bool, bytes: &[u8], place: &mut Place, line: usize) -> Result<u32, Fault>
     ensures { Stands (reading.operand_at wanted bytes.now place.old.at line) result place.old.at place.new.at }
 {
@@ -36,10 +34,7 @@ pub fn line_at(bytes: &[u8], place: &mut Place) -> Result<Line, Fault>
     let guard = Guard { place, start };
     let operation = operand(bytes, guard.place, start)?;
     if operation > 10 {
-        return Err(Fault {
-            cause: Cause::Operation,
-            place: start,
-        });
+        return Err(Cause::Operation.at(start));
     }
     let a = operand(bytes, guard.place, start)?;
     let operands = arity(operation);
@@ -55,17 +50,8 @@ pub fn count_at(bytes: &[u8]) -> Result<(usize, Place), Fault>
 {
     let mut place = Place { at: 0 };
     let count = operand(bytes, &mut place, 0)?;
-    if count > 64 {
-        return Err(Fault {
-            cause: Cause::Count,
-            place: 0,
-        });
-    }
-    if count == 0 {
-        return Err(Fault {
-            cause: Cause::Count,
-            place: 0,
-        });
+    if !(1..=64).contains(&count) {
+        return Err(Cause::Count.at(0));
     }
     Ok((count as usize, place))
 }
@@ -75,10 +61,7 @@ pub fn end_at(bytes: &[u8], place: Place) -> Result<(), Fault>
     ensures { result ≡ reading.end_at bytes.now place.at }
 {
     if place.at < bytes.len() {
-        return Err(Fault {
-            cause: Cause::Left,
-            place: place.at,
-        });
+        return Err(Cause::Left.at(place.at));
     }
     Ok(())
 }

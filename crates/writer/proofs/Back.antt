@@ -4,7 +4,7 @@ use Rattle.std.proofs.lemmas.List.{drop_all}
 use Rattle.std.proofs.lemmas.Bool.{eqb-false, eqb-true, ltb-false}
 use Rattle.fault.proofs.Steps.{after_ok, err_ok, ok_is}
 use Rattle.fault.specs.Refusals.{after, refused}
-use Rattle.fault.specs.declared.fault.Cause.TheVariants.{Count, Left, Operation}
+use Rattle.fault.specs.declared.fault.Cause.TheVariants.{Count, Operation}
 use Rattle.fault.specs.declared.fault.Fault.{Fault}
 use Rattle.leb.proofs.Trip.{round_trips}
 use Rattle.leb.specs.Numbers.{Bytes, decode, encode, size}
@@ -13,6 +13,8 @@ use Rattle.line.specs.Operations.{arity, folded, line_of, unfolded}
 use Rattle.line.specs.declared.line.Line.{Line}
 use Rattle.reader.proofs.Chains.{placed_ok}
 use Rattle.reader.specs.Reading.{count_at, formula_at, line_at, lines_from, number_at, operand_at, placed}
+use Rattle.writer.proofs.There.{ended, there}
+use Rattle.writer.specs.Trips.{FormulaTrips}
 use Rattle.writer.specs.Writing.{formula_bytes, line_bytes, lines_bytes, operand_bytes}
 
 -- ---- a line's numbers are those it was made of
@@ -39,10 +41,6 @@ same_bytes (suc (suc (suc (suc (suc (suc (suc (suc zero)))))))) a b c h = refl
 same_bytes (suc (suc (suc (suc (suc (suc (suc (suc (suc zero))))))))) a b c h = refl
 same_bytes (suc (suc (suc (suc (suc (suc (suc (suc (suc (suc zero)))))))))) a b c h = refl
 same_bytes (suc (suc (suc (suc (suc (suc (suc (suc (suc (suc (suc op))))))))))) a b c h = absurd (omega arith)
-
--- bytes left over, judged
-abbrev ended : Bool → ℕ → Result (Unit {0}) Fault
-ended left at = cond left (refused Left at) (Ok tt)
 
 bytes_drop : (n : ℕ) (xs : List ℕ) → Bytes xs → Bytes (drop n xs)
 bytes_drop zero xs t = t
@@ -122,3 +120,6 @@ module _ (bytes : List ℕ) (all : Bytes bytes) where
           go true t q = absurd (err_ok q)
           go false true q = absurd (err_ok q)
           go false false q = ok_is q
+
+pub trips : FormulaTrips
+trips = record { there = there; back = λ bytes ls all e. back bytes all ls e }

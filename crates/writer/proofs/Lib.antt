@@ -4,3 +4,4 @@ pub mod Overlay
 pub mod Groups
 pub mod LineBytes
 pub mod LinesBytes
+pub mod Pens

@@ -1,9 +1,13 @@
 -- The bytes of lines, one line more.
-use Rattle.std.proofs.Common.{◌≡◌, ℕ, ◌+◌, ◌<◌, ◌≤◌, List, [], ◌∷◌, ◌++◌, length, get_or, take, drop, sym, refl, ap, ◌∙◌, append_assoc, append-nil, arith, length-append, take-append-drop}
+use Rattle.std.proofs.Common.{◌≡◌, ℕ, ◌+◌, ◌*◌, ◌<◌, ◌≤◌, List, [], ◌∷◌, ◌++◌, length, get_or, sum_by, ltb, Some, take, drop, sym, refl, ap, ◌∙◌, append_assoc, append-nil, arith, length-append, take-append-drop}
 use Rattle.std.proofs.lemmas.List.{take_more}
+use Rattle.std.proofs.lemmas.List.Sums.{sum_by-cons}
+use Rattle.leb.specs.Numbers.{encode}
+use Rattle.line.specs.Operations.{arity, first, operation, second, third}
 use Rattle.line.specs.declared.line.Line.{Line}
-use Rattle.writer.proofs.Overlay.{written_append}
-use Rattle.writer.specs.Writing.{line_bytes, lines_bytes, written}
+use Rattle.writer.proofs.Groups.{at_most_ten}
+use Rattle.writer.proofs.LineBytes.{four, operand_few}
+use Rattle.writer.specs.Writing.{line_bytes, operand_bytes, lines_bytes}
 
 lines-++ : (xs ys : List Line) → lines_bytes (xs ++ ys) ≡ lines_bytes xs ++ lines_bytes ys
 lines-++ [] ys = refl
@@ -13,17 +17,21 @@ pub lines_more : (ls : List Line) (i : ℕ) (d : Line) → i < length ls → lin
 lines_more ls i d h = ap lines_bytes (take_more ls i d h) ∙ lines-++ (take i ls) (get_or ls i d ∷ []) ∙ ap (λ z. lines_bytes (take i ls) ++ z) (append-nil (line_bytes (get_or ls i d)))
 
 -- the front of the bytes
-lines_front : (ls : List Line) (i : ℕ) → length (lines_bytes (take i ls)) ≤ length (lines_bytes ls)
+pub lines_front : (ls : List Line) (i : ℕ) → length (lines_bytes (take i ls)) ≤ length (lines_bytes ls)
 lines_front ls i = let e = ap length (ap lines_bytes (sym (take-append-drop i ls)) ∙ lines-++ (take i ls) (drop i ls)) ∙ length-append (lines_bytes (take i ls)) (lines_bytes (drop i ls)) in omega (arith, e)
 
--- ---- for the loop that counts
-pub width_more : (ls : List Line) (i base : ℕ) (d : Line) → i < length ls → base + length (lines_bytes (take i ls)) + length (line_bytes (get_or ls i d)) ≡ base + length (lines_bytes (take (i + 1) ls))
-width_more ls i base d h = let e = ap length (lines_more ls i d h) ∙ length-append (lines_bytes (take i ls)) (line_bytes (get_or ls i d)) in omega (arith, e)
+pub lines_sum : (ls : List Line) → sum_by (λ l. length (line_bytes l)) ls ≡ length (lines_bytes ls)
+lines_sum [] = refl
+lines_sum (l ∷ ls) = sum_by-cons (λ x. length (line_bytes x)) l ls ∙ ap (λ n. length (line_bytes l) + n) (lines_sum ls) ∙ sym (length-append (line_bytes l) (lines_bytes ls))
 
--- ---- for the loop that writes
-pub line_room : (ls : List Line) (i at size : ℕ) (d : Line) → i < length ls → at + length (lines_bytes ls) ≤ size → at + length (lines_bytes (take i ls)) + length (line_bytes (get_or ls i d)) ≤ size
-line_room ls i at size d h r = let e = width_more ls i at d h in let f = lines_front ls (i + 1) in omega (arith, e, f)
+line_few : (l : Line) → length (line_bytes l) ≤ 40
+line_few l =
+    let op = operation l in
+    let y = operand_bytes (ltb 1 (arity op)) (second l) in
+    let z = operand_bytes (ltb 2 (arity op)) (third l) in
+    let n = four (encode op) (encode (first l)) y z in
+    omega (arith, at_most_ten (Some op), at_most_ten (Some (first l)), operand_few (ltb 1 (arity op)) (second l), operand_few (ltb 2 (arity op)) (third l))
 
-pub line_put : (ls : List Line) (i at : ℕ) (d : Line) (out : List ℕ) → i < length ls → at + length (lines_bytes ls) ≤ length out
-    → written (written out at (lines_bytes (take i ls))) (at + length (lines_bytes (take i ls))) (line_bytes (get_or ls i d)) ≡ written out at (lines_bytes (take (i + 1) ls))
-line_put ls i at d out h r = written_append out at (lines_bytes (take i ls)) (line_bytes (get_or ls i d)) (let f = lines_front ls i in omega (arith, f)) ∙ ap (written out at) (sym (lines_more ls i d h))
+pub lines_few : (ls : List Line) → length (lines_bytes ls) ≤ 40 * length ls
+lines_few [] = omega arith
+lines_few (l ∷ ls) = omega (arith, line_few l, lines_few ls, length-append (line_bytes l) (lines_bytes ls))

@@ -1,20 +1,10 @@
--- Bytes written over others: lengths, one byte more, one list after another.
-use Rattle.std.proofs.Common.{◌≡◌, ℕ, suc, ◌+◌, ◌<◌, ◌≤◌, List, [], ◌∷◌, ◌++◌, length, take, drop, set, sym, ap, ◌∙◌, subst, ap₂, append_assoc, add_assoc, zero-add, add-one, arith, length-append, length-drop, length-take, length-take-le, drop-drop, take-suc-set, drop-set-lt}
-use lib.Seq.{drop-append-add, set_split, take-append-add, take-append_seam}
+-- Bytes written over others: lengths, one list after another.
+use Rattle.std.proofs.Common.{◌≡◌, ℕ, ◌+◌, ◌≤◌, List, ◌++◌, length, take, drop, sym, ap, ◌∙◌, subst, ap₂, append_assoc, add_assoc, zero-add, arith, length-append, length-drop, length-take, length-take-le, drop-drop}
+use lib.Seq.{drop-append-add, take-append-add, take-append_seam}
 use Rattle.writer.specs.Writing.{written}
 
 pub length_written : (out : List ℕ) (at : ℕ) (bs : List ℕ) → at + length bs ≤ length out → length (written out at bs) ≡ length out
 length_written out at bs h = simp (length-append, length-take, length-drop) (omega arith)
-
--- a byte, then the rest
-pub written_cons : (out : List ℕ) (at b : ℕ) (bs : List ℕ) → at < length out → written (set out at b) (at + 1) bs ≡ written out at (b ∷ bs)
-written_cons out at b bs h =
-    let e : at + 1 + length bs ≡ at + suc (length bs) = omega arith in
-    let f : at < at + 1 + length bs = omega arith in
-    rw (add-one at, take-suc-set out at b h) (append_assoc (take at out) (b ∷ []) _ ∙ rw (← add-one at, drop-set-lt (at + 1 + length bs) out at b f, e))
-
-pub written_one : (out : List ℕ) (at b : ℕ) → at < length out → set out at b ≡ written out at (b ∷ [])
-written_one out at b h = set_split out at b h ∙ rw (add-one at)
 
 -- one list after another
 front : (A xs D : List ℕ) (at : ℕ) → length A ≡ at → take (at + length xs) (A ++ (xs ++ D)) ≡ A ++ xs

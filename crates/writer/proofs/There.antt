@@ -80,7 +80,7 @@ abbrev counted : Bool → Bool → ℕ → ℕ → Result (ℕ × Place) Fault
 counted many none n at = cond many (refused Count 0) (cond none (refused Count 0) (Ok (n, record { at = at })))
 
 -- bytes left over, judged
-abbrev ended : Bool → ℕ → Result (Unit {0}) Fault
+abbrev pub ended : Bool → ℕ → Result (Unit {0}) Fault
 ended left at = cond left (refused Left at) (Ok tt)
 
 module _ (bytes : List ℕ) where

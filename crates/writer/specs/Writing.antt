@@ -1,5 +1,5 @@
 -- Formula bytes: the number of lines, then each line's operation and operands.
-use Rattle.std.specs.Prelude.{ℕ, ◌+◌, Bool, true, false, cond, List, [], ◌∷◌, ◌++◌, length, take, drop, Ok, Err, Result, ◌==◌, nat_lt}
+use Rattle.std.specs.Prelude.{ℕ, ◌+◌, Bool, true, false, cond, List, [], ◌∷◌, ◌++◌, length, take, drop, Some, None, Option, Ok, Err, Result, ◌==◌, nat_lt}
 use Rattle.fault.specs.declared.fault.Cause.TheVariants.{Count, NoLine, Room}
 use Rattle.fault.specs.declared.fault.Fault.{Fault}
 use Rattle.leb.specs.Numbers.{encode}
@@ -10,6 +10,11 @@ use Rattle.line.specs.declared.line.Line.{Line}
 abbrev pub operand_bytes : Bool → ℕ → List ℕ
 operand_bytes true n = encode n
 operand_bytes false n = []
+
+-- the bytes of an operand, if it is there
+abbrev pub held_bytes : Option ℕ → List ℕ
+held_bytes (Some n) = encode n
+held_bytes None = []
 
 abbrev pub line_bytes : Line → List ℕ
 line_bytes l =

@@ -3,5 +3,6 @@
 
 mod lines;
 mod numbers;
+mod pen;
 
 pub use lines::write;

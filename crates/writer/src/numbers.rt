@@ -1,35 +1,36 @@
 // Writing a number.
 ghost use Rattle.std.specs.Prelude.{◌≡◌, ◌+◌, ◌≤◌, length};
-ghost use Rattle.leb.specs.Numbers.{encode};
-ghost use Rattle.writer.specs.Writing.{written};
+ghost use Rattle.std.specs.Iterator.{YieldsFirst, item_count};
+ghost use Rattle.writer.specs.Writing.{held_bytes};
 
-// How many bytes a number takes.
-pub fn width(n: u64) -> usize
-    ensures value { result ≡ length (encode n) }
-    ensures bound { result ≤ 10 }
-{
-    let mut rest = n;
-    let mut groups = 1;
-    while rest >= 128 {
-        rest /= 128;
-        groups += 1;
-    }
-    groups
+// The bytes that are left of a number, low group first.
+#[derive(Drop)]
+pub struct Groups {
+    pub rest: Option<u64>,
 }
 
-// Writes a number from a place on, and answers where it ends.
-pub fn put(out: &mut [u8], at: usize, n: u64) -> usize
-    requires { at + length (encode n) ≤ length out.old }
-    ensures bytes { out.new ≡ written out.old at (encode n) }
-    ensures end { result ≡ at + length (encode n) }
-{
-    let mut place = at;
-    let mut rest = n;
-    while rest >= 128 {
-        out[place] = (rest % 128 + 128) as u8;
-        rest /= 128;
-        place += 1;
+impl Iterator for Groups {
+    type Item = u8;
+
+    ghost next_gives = { YieldsFirst (λ s. held_bytes s.rest) };
+
+    ghost remaining = { item_count (λ s. held_bytes s.rest) };
+
+    fn next(&mut self) -> Option<u8> {
+        let n = self.rest?;
+        if n < 128 {
+            self.rest = None;
+            return Some(n as u8);
+        }
+        self.rest = Some(n / 128);
+        Some((n % 128 + 128) as u8)
     }
-    out[place] = rest as u8;
-    place + 1
+}
+
+// How many bytes a number takes, if it is there.
+pub fn width(n: Option<u64>) -> usize
+    ensures value { result ≡ length (held_bytes n) }
+    ensures bound { result ≤ 10 }
+{
+    Groups { rest: n }.count()
 }

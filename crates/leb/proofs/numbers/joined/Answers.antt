@@ -1,5 +1,6 @@
-use Rattle.leb.proofs.Forms.{join_group}
+use Rattle.std.proofs.Common.{rules, ◌≡◌, reverse, fold, ◌∙◌}
+use Rattle.leb.proofs.Joining.{step, folded}
 use Rattle.leb.proofs.numbers.joined.Goals as goal
 
 pub returns : goal.returns
-returns c = join_group c.args.value c.args.shift c.args.byte c.from.result c.from.ensures c.requires.0 c.requires.1
+returns c few = let e : c.fold.result ≡ fold step 0 (reverse c.args.groups.now) = search rules in e ∙ folded c.args.groups.now few

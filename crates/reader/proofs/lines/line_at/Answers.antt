@@ -1,7 +1,6 @@
 use Rattle.std.proofs.lemmas.Result.{err_from_is_err_and}
 use Rattle.leb.specs.declared.place.Place.{Place}
 use Rattle.std.proofs.Common.{Err, ap, ◌∙◌}
-use Rattle.leb.specs.declared.place.Place.{Place}
 use Rattle.reader.proofs.Chains.{break_b, break_c, err_stands, ok_stands, stands_err, stands_ok, whole}
 use Rattle.reader.proofs.lines.line_at.Goals as goal
 

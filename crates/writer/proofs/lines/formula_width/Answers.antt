@@ -1,17 +1,15 @@
-use Rattle.std.proofs.Common.{length, ap, arith, length-append, take_all}
+use Rattle.std.proofs.Common.{◌≡◌, length, sum_by, arith, rules, length-append}
 use Rattle.leb.specs.Numbers.{encode}
-use Rattle.line.specs.declared.line.Line.TheVariants.{Channel}
-use Rattle.writer.proofs.LinesBytes.{width_more}
-use Rattle.writer.specs.Writing.{lines_bytes}
+use Rattle.writer.proofs.LinesBytes.{lines_few, lines_sum}
+use Rattle.writer.specs.Writing.{line_bytes, lines_bytes}
 use Rattle.writer.proofs.lines.formula_width.Goals as goal
 
-pub loop-line-preserved : goal.loop-line-preserved
-loop-line-preserved c =
-    let e = width_more c.args.lines.now c.loop-line.line-index (length (encode (length c.args.lines.now))) (Channel 0) c.loop-line-test.true in
-    (omega (arith, c.loop-line.invariant.0, c.line_width-total.ensures.value, e), omega (arith, c.loop-line.invariant.1, c.line_width-total.ensures.bound))
+pub overflow_add-result : goal.overflow_add-result
+overflow_add-result c =
+    let e : c.sum-lines_width.result ≡ sum_by (λ l. length (line_bytes l)) c.args.lines.now = search rules in
+    omega (arith, lines_sum c.args.lines.now, lines_few c.args.lines.now)
 
 pub returns : goal.returns
 returns c =
-    let e = ap (λ z. length (lines_bytes z)) (take_all c.loop-line.line-index c.args.lines.now c.loop-line-test.false) in
-    let n = length-append (encode (length c.args.lines.now)) (lines_bytes c.args.lines.now) in
-    omega (arith, c.loop-line.invariant.0, e, n)
+    let e : c.sum-lines_width.result ≡ sum_by (λ l. length (line_bytes l)) c.args.lines.now = search rules in
+    omega (arith, lines_sum c.args.lines.now, length-append (encode (length c.args.lines.now)) (lines_bytes c.args.lines.now))
