@@ -17,12 +17,7 @@ fn trips(rt: &impl Abort, bytes: &[u8], n: u32) {
     assert_eq!(rt; length, bytes.len().saturating_add(2));
     assert_eq!(rt; out[0], 1);
     assert_eq!(rt; out[1], 0);
-    for i in 0..bytes.len() {
-        assert_eq!(rt;
-            out.get(i.saturating_add(2)).copied(),
-            bytes.get(i).copied()
-        );
-    }
+    assert!(rt; out[2..].starts_with(bytes));
 }
 
 #[test]

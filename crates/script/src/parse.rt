@@ -65,8 +65,7 @@ fn kind_of<'a>(words: &mut Words<'a>) -> Result<KindName, Slip<'a>> {
 fn within<'a>(words: &mut Words<'a>, limit: usize) -> Result<usize, Slip<'a>> {
     let word = words.word()?;
     let n = usize::try_from(number_of(word)?).ok();
-    n.filter(|n| *n <= limit)
-        .ok_or(Problem::Beyond.of(word))
+    n.filter(|n| *n <= limit).ok_or(Problem::Beyond.of(word))
 }
 
 fn room<'a>(words: &mut Words<'a>) -> Result<Option<usize>, Slip<'a>> {

@@ -22,7 +22,7 @@ pub enum Problem {
 impl Problem {
     // The slip of a word that has the problem.
     pub fn of(self, word: &str) -> Slip<'_>
-        ensures word { result.word ≡ word }
+        ensures word { result.word.now ≡ word.now }
         ensures problem { result.problem ≡ self }
     {
         Slip {
