@@ -49,15 +49,6 @@ fn held<K: Units>(
     format!(in heap; "{call} {line}: {held}")
 }
 
-// The first bytes, in two digits each.
-fn hexadecimal(heap: Global, bytes: &[u8], length: usize) -> Result<String, AllocError> {
-    let mut text = String::from_str(heap, "write:")?;
-    for byte in bytes.iter().take(length) {
-        write!(text, " {byte:02x}")?;
-    }
-    Ok(text)
-}
-
 // The midpoint of channel 0, rounded down. Ends that are no counts are refused before their midpoint is read.
 fn midpoint(lower: &[i64], upper: &[i64]) -> i64 {
     let (Some(l), Some(u)) = (lower.first(), upper.first()) else {
@@ -117,7 +108,13 @@ impl<K: Units> Desk<K> {
         let mut bytes = [0u8; ENOUGH];
         let room = room.unwrap_or(ENOUGH).min(ENOUGH);
         match self.sheet.write(&mut bytes[..room]) {
-            Ok(length) => hexadecimal(heap, &bytes[..], length),
+            Ok(length) => {
+                let mut text = String::from_str(heap, "write:")?;
+                for byte in bytes.iter().take(length) {
+                    write!(text, " {byte:02x}")?;
+                }
+                Ok(text)
+            }
             Err(fault) => format!(in heap; "write: {fault}"),
         }
     }

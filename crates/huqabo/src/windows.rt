@@ -56,22 +56,25 @@ impl fmt::Display for Tally {
     }
 }
 
+// Opens the window of a line and prints what comes of it. Answers whether that is a report.
 fn step(
     rt: &HostRuntime,
     station: &mut Station,
     formula: &[u8],
-    tally: &mut Tally,
     number: u64,
     text: &str,
-) -> Result<(), Stop> {
+) -> Result<bool, Stop> {
     let counts = counts_of(rt.alloc(), text).map_err(|slip| slipped(rt, number, slip))?;
-    let window = station.window(formula, counts.lower.as_slice(), counts.upper.as_slice());
-    tally.count(window.is_ok());
-    match window {
-        Ok(report) => println!(rt; "window {number}: {report}")?,
-        Err(refused) => println!(rt; "window {number}: {refused}")?,
+    match station.window(formula, counts.lower.as_slice(), counts.upper.as_slice()) {
+        Ok(report) => {
+            println!(rt; "window {number}: {report}")?;
+            Ok(true)
+        }
+        Err(refused) => {
+            println!(rt; "window {number}: {refused}")?;
+            Ok(false)
+        }
     }
-    Ok(())
 }
 
 pub fn windows(
@@ -91,14 +94,8 @@ pub fn windows(
     };
     let lines = BufReader::new(rt.alloc(), rt.stdin())?.lines(rt.alloc());
     for (number, text) in (1u64..).zip(lines) {
-        step(
-            rt,
-            &mut station,
-            formula.as_slice(),
-            &mut tally,
-            number,
-            text?.as_str(),
-        )?;
+        let reported = step(rt, &mut station, formula.as_slice(), number, text?.as_str())?;
+        tally.count(reported);
     }
     println!(rt; "{tally}")?;
     Ok(())
