@@ -8,11 +8,11 @@ use std::io::{BufRead, BufReader};
 // Makes the call of a line, if it has one, and prints the answer.
 fn step(rt: &HostRuntime, station: &mut Station, line: u64, text: &str) -> Result<(), Stop> {
     let heap = rt.alloc();
-    match call_of(heap, text) {
-        Ok(Some(call)) => Ok(rt.println(station.answer(heap, &call)?)?),
-        Ok(None) => Ok(()),
-        Err(slip) => Err(slipped(rt, line, slip)),
+    let call = call_of(heap, text).map_err(|slip| slipped(rt, line, slip))?;
+    if let Some(call) = call {
+        rt.println(station.answer(heap, &call)?)?;
     }
+    Ok(())
 }
 
 // Makes the call of each line.

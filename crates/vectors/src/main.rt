@@ -60,6 +60,7 @@ fn run(rt: &HostRuntime, name: &str) -> anyhow::Result<()> {
     Ok(())
 }
 
+// Each has its answers beside it.
 const SCRIPTS: [&str; 7] = [
     "trials",
     "calls-101",
