@@ -1,8 +1,8 @@
 // The desk of one kind.
 ghost use Rattle.std.specs.Prelude.{◌≤◌};
 
-use crate::texts::{Held, Refusal};
-use crate::windows::Window;
+use crate::texts::Held;
+use crate::windows::Refused;
 use fault::Fault;
 use kind::NumberKind;
 use line::Line;
@@ -34,13 +34,27 @@ pub struct Desk<K: Units> {
 fn outcome(heap: Global, call: &str, answer: Result<(), Fault>) -> Result<String, AllocError> {
     match answer {
         Ok(()) => format!(in heap; "{call}: accepted"),
-        Err(fault) => refusal(heap, call, fault),
+        Err(fault) => format!(in heap; "{call}: {fault}"),
     }
 }
 
-fn refusal(heap: Global, call: &str, fault: Fault) -> Result<String, AllocError> {
-    let refusal = Refusal { fault };
-    format!(in heap; "{call}: {refusal}")
+// What a line of the memory holds.
+fn held<K: Units>(
+    heap: Global,
+    call: &str,
+    line: usize,
+    record: Record<K>,
+) -> Result<String, AllocError> {
+    let held = Held { record };
+    format!(in heap; "{call} {line}: {held}")
+}
+
+// The midpoint of channel 0, rounded down. Ends that are no counts are refused before their midpoint is read.
+fn midpoint(lower: &[i64], upper: &[i64]) -> i64 {
+    let (Some(l), Some(u)) = (lower.first(), upper.first()) else {
+        return 0;
+    };
+    l.saturating_add(*u).div_euclid(2)
 }
 
 impl<K: Units> Desk<K> {
@@ -72,102 +86,81 @@ impl<K: Units> Desk<K> {
     }
 
     pub fn add(&mut self, heap: Global, line: Line) -> Result<String, AllocError> {
-        let lent = self.lent;
-        let all = &mut self.working[..];
-        match self.sheet.add(&mut all[0..lent], line) {
+        match self.sheet.add(&mut self.working[..self.lent], line) {
             Ok(number) => format!(in heap; "add: line {number}"),
-            Err(fault) => refusal(heap, "add", fault),
+            Err(fault) => format!(in heap; "add: {fault}"),
         }
     }
 
     pub fn strike(&mut self, heap: Global) -> Result<String, AllocError> {
-        let answer = self.sheet.strike();
-        outcome(heap, "strike", answer)
+        outcome(heap, "strike", self.sheet.strike())
     }
 
     fn load(&mut self, bytes: &[u8]) -> Result<(), Fault> {
-        let lent = self.lent;
-        let all = &mut self.working[..];
-        self.sheet.read(&mut all[0..lent], bytes)
+        self.sheet.read(&mut self.working[..self.lent], bytes)
     }
 
     pub fn read(&mut self, heap: Global, bytes: &[u8]) -> Result<String, AllocError> {
-        let answer = self.load(bytes);
-        outcome(heap, "read", answer)
-    }
-
-    fn write_into(&self, heap: Global, out: &mut [u8]) -> Result<String, AllocError> {
-        match self.sheet.write(out) {
-            Ok(length) => hexadecimal(heap, out, length),
-            Err(fault) => refusal(heap, "write", fault),
-        }
+        outcome(heap, "read", self.load(bytes))
     }
 
     pub fn write(&self, heap: Global, room: Option<usize>) -> Result<String, AllocError> {
         let mut bytes = [0u8; ENOUGH];
         let room = room.unwrap_or(ENOUGH).min(ENOUGH);
-        self.write_into(heap, &mut bytes[0..room])
+        match self.sheet.write(&mut bytes[..room]) {
+            Ok(length) => {
+                let mut text = String::from_str(heap, "write:")?;
+                for byte in bytes.iter().take(length) {
+                    write!(text, " {byte:02x}")?;
+                }
+                Ok(text)
+            }
+            Err(fault) => format!(in heap; "write: {fault}"),
+        }
     }
 
     fn range(&self, line: usize) -> Result<Report, Fault> {
-        let all = &self.working[..];
-        self.sheet.report(&all[0..self.lent], line)
+        self.sheet.report(&self.working[..self.lent], line)
     }
 
     pub fn report(&self, heap: Global, line: usize) -> Result<String, AllocError> {
         match self.range(line) {
             Ok(report) => {
-                let middle = report.middle;
-                let margin = report.margin;
                 let value = Decimal {
-                    units: middle.saturating_mul(256),
+                    units: report.middle.saturating_mul(256),
                 };
                 let about = Decimal {
-                    units: margin.saturating_mul(256),
+                    units: report.margin.saturating_mul(256),
                 };
-                format!(in heap;
-                    "report {line}: middle {middle} margin {margin} ({value} +- {about})"
-                )
+                format!(in heap; "report {line}: {report} ({value} +- {about})")
             }
-            Err(fault) => {
-                let refusal = Refusal { fault };
-                format!(in heap; "report {line}: {refusal}")
-            }
+            Err(fault) => format!(in heap; "report {line}: {fault}"),
         }
     }
 
     // The working line of a held line.
     pub fn record(&self, heap: Global, line: usize) -> Result<String, AllocError> {
-        if line >= self.sheet.held() || line >= MEMORY {
+        if line >= self.sheet.held() {
             return format!(in heap; "record {line}: not held");
         }
-        let held = Held {
-            record: self.working[line],
-        };
-        format!(in heap; "record {line}: {held}")
+        held(heap, "record", line, self.working[line.min(MEMORY - 1)])
     }
 
     // A working line, held or not.
     pub fn working(&self, heap: Global, line: usize) -> Result<String, AllocError> {
-        let held = Held {
-            record: self.working[line.min(MEMORY - 1)],
-        };
-        format!(in heap; "working {line}: {held}")
+        held(heap, "working", line, self.working[line.min(MEMORY - 1)])
     }
 
     pub fn spare(&self, heap: Global, line: usize) -> Result<String, AllocError> {
-        let held = Held {
-            record: self.spare[line.min(MEMORY - 1)],
-        };
-        format!(in heap; "spare {line}: {held}")
+        held(heap, "spare", line, self.spare[line.min(MEMORY - 1)])
     }
 }
 
 impl<K: Units> Desk<K> {
-    // Makes a call, and answers in words. (Another kind is another desk.)
+    // Makes a call, and answers in words. (The station has blanked the desk of a kind already.)
     pub fn answer(&mut self, heap: Global, call: &Call) -> Result<String, AllocError> {
         match call {
-            Call::Kind(_) => String::from_str(heap, "kind"),
+            Call::Kind(kind) => format!(in heap; "kind: {kind}"),
             Call::Lend(working, spare) => {
                 self.lend(*working);
                 format!(in heap; "lend: {working} {spare}")
@@ -185,35 +178,26 @@ impl<K: Units> Desk<K> {
     }
 
     // Opens a box with channel 0 swept about the midpoint of its range, reads a formula and reports its last line.
-    pub fn window(&mut self, formula: &[u8], lower: &[i64], upper: &[i64]) -> Window {
-        let centre = midpoint(lower, upper);
-        if let Err(fault) = self.sheet.open(lower, upper, 0, centre) {
-            return Window::Refused("open", fault);
-        }
-        if let Err(fault) = self.load(formula) {
-            return Window::Refused("read", fault);
-        }
-        match self.range(self.sheet.held().saturating_sub(1)) {
-            Ok(report) => Window::Reported(report),
-            Err(fault) => Window::Refused("report", fault),
-        }
+    pub fn window(
+        &mut self,
+        formula: &[u8],
+        lower: &[i64],
+        upper: &[i64],
+    ) -> Result<Report, Refused> {
+        self.sheet
+            .open(lower, upper, 0, midpoint(lower, upper))
+            .map_err(|fault| Refused {
+                call: "open",
+                fault,
+            })?;
+        self.load(formula).map_err(|fault| Refused {
+            call: "read",
+            fault,
+        })?;
+        self.range(self.sheet.held().saturating_sub(1))
+            .map_err(|fault| Refused {
+                call: "report",
+                fault,
+            })
     }
-}
-
-// The midpoint of channel 0, rounded down. Ends that are no counts are refused before their midpoint is read.
-fn midpoint(lower: &[i64], upper: &[i64]) -> i64 {
-    let (Some(l), Some(u)) = (lower.first(), upper.first()) else {
-        return 0;
-    };
-    l.saturating_add(*u).div_euclid(2)
-}
-
-// The first bytes, in two digits each.
-fn hexadecimal(heap: Global, bytes: &[u8], length: usize) -> Result<String, AllocError> {
-    let mut text = String::from_str(heap, "write:")?;
-    for byte in bytes.iter().take(length) {
-        let digits = format!(in heap; " {byte:02x}")?;
-        text.push_str(digits.as_str())?;
-    }
-    Ok(text)
 }

@@ -7,4 +7,4 @@ mod texts;
 mod windows;
 
 pub use station::Station;
-pub use windows::Window;
+pub use windows::Refused;

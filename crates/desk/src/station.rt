@@ -1,55 +1,48 @@
-// A station: a desk for each kind.
+// A station: a desk of the kind in use.
 use crate::desk::Desk;
-use crate::windows::Window;
+use crate::windows::Refused;
 use fixed::Fixed;
-use marks::Units;
+use report::Report;
 use script::{Call, KindName};
 use sliding::Sliding;
 use std::alloc::{AllocError, Global};
 
-// The kind in use, and a desk of each.
 #[derive(Drop)]
-pub struct Station {
-    kind: KindName,
-    fixed: Desk<Fixed>,
-    sliding: Desk<Sliding>,
+pub enum Station {
+    Fixed(Desk<Fixed>),
+    Sliding(Desk<Sliding>),
 }
 
 impl Station {
     // A blank sheet of a kind.
     pub fn blank(kind: KindName) -> Station {
-        Station {
-            kind,
-            fixed: Desk::blank(),
-            sliding: Desk::blank(),
+        match kind {
+            KindName::Fixed => Station::Fixed(Desk::blank()),
+            KindName::Sliding => Station::Sliding(Desk::blank()),
         }
     }
 
     // Makes a call, and answers in words.
     pub fn answer(&mut self, heap: Global, call: &Call) -> Result<String, AllocError> {
-        match call {
-            Call::Kind(KindName::Fixed) => {
-                self.kind = KindName::Fixed;
-                self.fixed = Desk::blank();
-                String::from_str(heap, "kind: fixed")
-            }
-            Call::Kind(KindName::Sliding) => {
-                self.kind = KindName::Sliding;
-                self.sliding = Desk::blank();
-                String::from_str(heap, "kind: sliding")
-            }
-            _ => match self.kind {
-                KindName::Fixed => self.fixed.answer(heap, call),
-                KindName::Sliding => self.sliding.answer(heap, call),
-            },
+        if let Call::Kind(kind) = call {
+            *self = Station::blank(*kind);
+        }
+        match self {
+            Station::Fixed(desk) => desk.answer(heap, call),
+            Station::Sliding(desk) => desk.answer(heap, call),
         }
     }
 
     // Opens a window's box, reads the formula and reports its last line.
-    pub fn window(&mut self, formula: &[u8], lower: &[i64], upper: &[i64]) -> Window {
-        match self.kind {
-            KindName::Fixed => self.fixed.window(formula, lower, upper),
-            KindName::Sliding => self.sliding.window(formula, lower, upper),
+    pub fn window(
+        &mut self,
+        formula: &[u8],
+        lower: &[i64],
+        upper: &[i64],
+    ) -> Result<Report, Refused> {
+        match self {
+            Station::Fixed(desk) => desk.window(formula, lower, upper),
+            Station::Sliding(desk) => desk.window(formula, lower, upper),
         }
     }
 }

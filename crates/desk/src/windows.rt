@@ -1,28 +1,20 @@
-// The windows of a station.
-use crate::texts::Refusal;
+// What may come of a station's window but a report.
 use fault::Fault;
-use report::Report;
+use std::error::Error;
 use std::fmt;
 
-// What comes of a window: a report, or the call that refused.
-#[derive(Clone, Copy)]
-pub enum Window {
-    Reported(Report),
-    Refused(&'static str, Fault),
+// The call of a window that was refused, and why.
+#[derive(Clone, Copy, Debug, PartialEq, Eq)]
+pub struct Refused {
+    pub call: &'static str,
+    pub fault: Fault,
 }
 
-impl fmt::Display for Window {
+impl fmt::Display for Refused {
     fn fmt<W: fmt::Write>(&self, f: &mut fmt::Formatter<W>) -> fmt::Result {
-        match self {
-            Window::Reported(report) => {
-                let middle = report.middle;
-                let margin = report.margin;
-                write!(f, "middle {middle} margin {margin}")
-            }
-            Window::Refused(call, fault) => {
-                let refusal = Refusal { fault: *fault };
-                write!(f, "{call} {refusal}")
-            }
-        }
+        let Refused { call, fault } = *self;
+        write!(f, "{call} {fault}")
     }
 }
+
+impl Error for Refused {}

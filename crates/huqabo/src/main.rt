@@ -17,21 +17,17 @@ A window is a line of counts: the lower and the upper end of each channel in tur
 Calls: kind, lend, open, add, strike, read, write, report, record, working, spare. See docs/PROGRAM.md.";
 
 fn run(rt: &HostRuntime) -> Result<(), Stop> {
-    let mut words = env::args(rt)?;
-    let _program = words.next();
-    let command = words.next();
-    let first = words.next();
-    let second = words.next();
-    match command {
-        None => Ok(rt.println(USAGE)?),
-        Some(word) => match word.as_str() {
-            "replay" => replay::replay(rt, first),
-            "windows" => windows::windows(rt, first, second),
-            _ => {
-                rt.println(USAGE)?;
-                Err(Stop::Said)
-            }
-        },
+    let mut words = env::args(rt)?.skip(1);
+    let Some(command) = words.next() else {
+        return Ok(rt.println(USAGE)?);
+    };
+    match command.as_str() {
+        "replay" => replay::replay(rt, words.next()),
+        "windows" => windows::windows(rt, words.next(), words.next()),
+        _ => {
+            rt.println(USAGE)?;
+            Err(Stop::Said)
+        }
     }
 }
 

@@ -8,36 +8,28 @@ use std::io::{BufRead, BufReader};
 // Makes the call of a line, if it has one, and prints the answer.
 fn step(rt: &HostRuntime, station: &mut Station, line: u64, text: &str) -> Result<(), Stop> {
     let heap = rt.alloc();
-    match call_of(heap, text) {
-        Ok(Some(call)) => {
-            let answer = station.answer(heap, &call)?;
-            rt.println(answer)?;
-            Ok(())
-        }
-        Ok(None) => Ok(()),
-        Err(slip) => Err(slipped(rt, line, slip)),
+    let call = call_of(heap, text).map_err(|slip| slipped(rt, line, slip))?;
+    if let Some(call) = call {
+        rt.println(station.answer(heap, &call)?)?;
     }
+    Ok(())
+}
+
+// Makes the call of each line.
+fn steps<R: BufRead + Drop>(rt: &HostRuntime, script: R) -> Result<(), Stop> {
+    let mut station = Station::blank(KindName::Fixed);
+    for (line, text) in (1u64..).zip(script.lines(rt.alloc())) {
+        step(rt, &mut station, line, text?.as_str())?;
+    }
+    Ok(())
 }
 
 pub fn replay(rt: &HostRuntime, file: Option<String>) -> Result<(), Stop> {
-    let mut station = Station::blank(KindName::Fixed);
-    let mut line = 0u64;
-    match file {
-        Some(name) => {
-            let Ok(text) = fs::read_to_string(rt, name.as_str()) else {
-                return Err(unread(rt, name.as_str()));
-            };
-            for words in text.lines() {
-                line = line.wrapping_add(1);
-                step(rt, &mut station, line, words)?;
-            }
-        }
-        None => {
-            for words in BufReader::new(rt.alloc(), rt.stdin())?.lines(rt.alloc()) {
-                line = line.wrapping_add(1);
-                step(rt, &mut station, line, words?.as_str())?;
-            }
-        }
+    let Some(name) = file else {
+        return steps(rt, BufReader::new(rt.alloc(), rt.stdin())?);
+    };
+    match fs::read_to_string(rt, name.as_str()) {
+        Ok(text) => steps(rt, text.as_bytes()),
+        Err(_) => Err(unread(rt, name.as_str())),
     }
-    Ok(())
 }

@@ -1,9 +1,9 @@
 // Why the program ends early.
-use script::{Problem, Slip};
-use std::alloc::{AllocError, AllocFailed};
+use script::Slip;
+use std::alloc::AllocError;
 use std::io;
 
-#[derive(Drop)]
+#[derive(Debug, Drop)]
 pub enum Stop {
     // it was said already
     Said,
@@ -23,26 +23,20 @@ impl From<AllocError> for Stop {
     }
 }
 
-impl<T: Drop> From<AllocFailed<T>> for Stop {
-    fn from(_refused: AllocFailed<T>) -> Stop {
-        Stop::Memory
+// The stop for what was said to standard error.
+fn after(said: io::Result<()>) -> Stop {
+    match said {
+        Ok(()) => Stop::Said,
+        Err(error) => Stop::from(error),
     }
 }
 
 // Says which word of which line is wrong, and stops.
 pub fn slipped(rt: &HostRuntime, line: u64, slip: Slip<'_>) -> Stop {
-    let word = slip.word;
-    let problem = slip.problem;
-    match eprintln!(rt; "huqabo: line {line}: '{word}' {problem}") {
-        Ok(()) => Stop::Said,
-        Err(_) => Stop::Io,
-    }
+    after(eprintln!(rt; "huqabo: line {line}: {slip}"))
 }
 
 // Says which file cannot be read, and stops.
 pub fn unread(rt: &HostRuntime, file: &str) -> Stop {
-    match eprintln!(rt; "huqabo: the file '{file}' cannot be read") {
-        Ok(()) => Stop::Said,
-        Err(_) => Stop::Io,
-    }
+    after(eprintln!(rt; "huqabo: the file '{file}' cannot be read"))
 }

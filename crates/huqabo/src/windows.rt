@@ -1,10 +1,9 @@
 // The windows of a station: the last line of a formula is reported for each.
 use crate::stop::{Stop, slipped, unread};
-use desk::{Station, Window};
-use script::{KindName, Problem, Slip, append_bytes, counts_of};
-use std::alloc::Global;
-use std::fs;
+use desk::Station;
+use script::{KindName, Problem, append_bytes, counts_of};
 use std::io::{BufRead, BufReader};
+use std::{fmt, fs};
 
 // The formula of a file with bytes in hexadecimal. Lines that begin with # are passed over.
 fn formula_of(rt: &HostRuntime, file: &str) -> Result<Vec<u8>, Stop> {
@@ -12,65 +11,70 @@ fn formula_of(rt: &HostRuntime, file: &str) -> Result<Vec<u8>, Stop> {
         return Err(unread(rt, file));
     };
     let mut bytes = Vec::new(rt.alloc());
-    let mut line = 0u64;
-    for digits in text.lines() {
-        line = line.wrapping_add(1);
-        if digits.starts_with("#") {
-            continue;
-        }
-        if let Err(slip) = append_bytes(&mut bytes, digits) {
-            return Err(slipped(rt, line, slip));
+    for (line, digits) in (1u64..).zip(text.lines()) {
+        if !digits.starts_with("#") {
+            append_bytes(&mut bytes, digits).map_err(|slip| slipped(rt, line, slip))?;
         }
     }
     Ok(bytes)
 }
 
-fn kind_of(rt: &HostRuntime, name: &Option<String>) -> Result<KindName, Stop> {
+fn kind_of(rt: &HostRuntime, name: Option<String>) -> Result<KindName, Stop> {
     let Some(word) = name else {
         return Ok(KindName::Fixed);
     };
-    match word.as_str() {
-        "fixed" => Ok(KindName::Fixed),
-        "sliding" => Ok(KindName::Sliding),
-        _ => Err(slipped(
-            rt,
-            0,
-            Slip {
-                word: word.as_str(),
-                problem: Problem::NoKind,
-            },
-        )),
-    }
+    word.as_str().parse().map_err(|problem: Problem| slipped(rt, 0, problem.of(word.as_str())))
 }
 
-// How many windows there were, and what became of them.
+// What became of the windows.
 #[derive(Clone, Copy)]
 struct Tally {
-    windows: u64,
     reported: u64,
     refused: u64,
 }
 
+impl Tally {
+    // Counts a window in.
+    fn count(&mut self, reported: bool) {
+        let tally = if reported {
+            &mut self.reported
+        } else {
+            &mut self.refused
+        };
+        *tally = tally.saturating_add(1);
+    }
+}
+
+impl fmt::Display for Tally {
+    fn fmt<W: fmt::Write>(&self, f: &mut fmt::Formatter<W>) -> fmt::Result {
+        let Tally { reported, refused } = *self;
+        let windows = reported.saturating_add(refused);
+        write!(
+            f,
+            "windows {windows}, reported {reported}, refused {refused}"
+        )
+    }
+}
+
+// Opens the window of a line and prints what comes of it. Answers whether that is a report.
 fn step(
     rt: &HostRuntime,
     station: &mut Station,
     formula: &[u8],
-    tally: &mut Tally,
+    number: u64,
     text: &str,
-) -> Result<(), Stop> {
-    tally.windows = tally.windows.wrapping_add(1);
-    let number = tally.windows;
-    let counts = match counts_of(rt.alloc(), text) {
-        Ok(counts) => counts,
-        Err(slip) => return Err(slipped(rt, number, slip)),
-    };
-    let window = station.window(formula, counts.lower.as_slice(), counts.upper.as_slice());
-    match window {
-        Window::Reported(_) => tally.reported = tally.reported.wrapping_add(1),
-        Window::Refused(..) => tally.refused = tally.refused.wrapping_add(1),
+) -> Result<bool, Stop> {
+    let counts = counts_of(rt.alloc(), text).map_err(|slip| slipped(rt, number, slip))?;
+    match station.window(formula, counts.lower.as_slice(), counts.upper.as_slice()) {
+        Ok(report) => {
+            println!(rt; "window {number}: {report}")?;
+            Ok(true)
+        }
+        Err(refused) => {
+            println!(rt; "window {number}: {refused}")?;
+            Ok(false)
+        }
     }
-    println!(rt; "window {number}: {window}")?;
-    Ok(())
 }
 
 pub fn windows(
@@ -79,37 +83,20 @@ pub fn windows(
     kind: Option<String>,
 ) -> Result<(), Stop> {
     let Some(file) = formula else {
-        return Err(slipped(
-            rt,
-            0,
-            Slip {
-                word: "windows",
-                problem: Problem::Missing,
-            },
-        ));
+        return Err(slipped(rt, 0, Problem::Missing.of("windows")));
     };
-    let kind = kind_of(rt, &kind)?;
-    let bytes = formula_of(rt, file.as_str())?;
+    let kind = kind_of(rt, kind)?;
+    let formula = formula_of(rt, file.as_str())?;
     let mut station = Station::blank(kind);
     let mut tally = Tally {
-        windows: 0,
         reported: 0,
         refused: 0,
     };
-    for text in BufReader::new(rt.alloc(), rt.stdin())?.lines(rt.alloc()) {
-        step(
-            rt,
-            &mut station,
-            bytes.as_slice(),
-            &mut tally,
-            text?.as_str(),
-        )?;
+    let lines = BufReader::new(rt.alloc(), rt.stdin())?.lines(rt.alloc());
+    for (number, text) in (1u64..).zip(lines) {
+        let reported = step(rt, &mut station, formula.as_slice(), number, text?.as_str())?;
+        tally.count(reported);
     }
-    let Tally {
-        windows,
-        reported,
-        refused,
-    } = tally;
-    println!(rt; "windows {windows}, reported {reported}, refused {refused}")?;
+    println!(rt; "{tally}")?;
     Ok(())
 }

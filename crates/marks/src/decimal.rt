@@ -1,8 +1,11 @@
 // Exact decimals.
 use std::fmt;
 
+// How many units make 1.
+const ONE: u64 = 16_777_216;
+
 // A number of 1/16,777,216.
-#[derive(Clone, Copy)]
+#[derive(Clone, Copy, Debug, PartialEq, Eq)]
 pub struct Decimal {
     pub units: i64,
 }
@@ -14,20 +17,17 @@ impl fmt::Display for Decimal {
         if self.units < 0 {
             write!(f, "-")?;
         }
-        let whole = size / 16_777_216;
+        let whole = size / ONE;
         write!(f, "{whole}")?;
-        let mut rest = size % 16_777_216;
+        let mut rest = size % ONE;
         if rest > 0 {
             write!(f, ".")?;
         }
-        // Each digit doubles the power of two that divides the rest, so that 24 digits are enough.
-        for _ in 0..24 {
-            if rest == 0 {
-                return Ok(());
-            }
-            let digit = rest * 10 / 16_777_216;
+        // Each digit doubles the power of two that divides the rest. At 2^24 nothing is left; 0 has 64 trailing zeros.
+        for _ in rest.trailing_zeros()..24 {
+            let digit = rest * 10 / ONE;
             write!(f, "{digit}")?;
-            rest = rest * 10 % 16_777_216;
+            rest = rest * 10 % ONE;
         }
         Ok(())
     }

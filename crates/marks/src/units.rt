@@ -14,7 +14,7 @@ pub trait Units: NumberKind {
 
 impl Units for Fixed {
     fn units(self) -> i64 {
-        self.count as i64 * 256
+        i64::from(self.count) * 256
     }
 }
 

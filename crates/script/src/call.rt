@@ -1,10 +1,34 @@
 // Calls of a script.
+use crate::slip::Problem;
 use line::Line;
+use std::fmt;
+use std::str::FromStr;
 
-#[derive(Clone, Copy)]
+#[derive(Clone, Copy, Debug, PartialEq, Eq)]
 pub enum KindName {
     Fixed,
     Sliding,
+}
+
+impl FromStr for KindName {
+    type Err = Problem;
+
+    fn from_str(word: &str) -> Result<KindName, Problem> {
+        match word {
+            "fixed" => Ok(KindName::Fixed),
+            "sliding" => Ok(KindName::Sliding),
+            _ => Err(Problem::NoKind),
+        }
+    }
+}
+
+impl fmt::Display for KindName {
+    fn fmt<W: fmt::Write>(&self, f: &mut fmt::Formatter<W>) -> fmt::Result {
+        match self {
+            KindName::Fixed => write!(f, "fixed"),
+            KindName::Sliding => write!(f, "sliding"),
+        }
+    }
 }
 
 #[derive(Drop)]

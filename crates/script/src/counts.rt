@@ -10,21 +10,18 @@ pub struct Counts {
     pub upper: Vec<i64>,
 }
 
-// Lower and upper end of each channel in turn.
+// Lower and upper end of each channel in turn. A last lower end may have no upper end: an open refuses lists of unequal length.
 pub fn counts_of(heap: Global, text: &str) -> Result<Counts, Slip<'_>> {
     let mut counts = Counts {
         lower: Vec::new(heap),
         upper: Vec::new(heap),
     };
-    let mut below = true;
-    for word in text.split_whitespace() {
-        let n = number_of(word)?;
-        if below {
-            counts.lower.push(n)?;
-        } else {
-            counts.upper.push(n)?;
+    let mut words = text.split_whitespace();
+    while let Some(lower) = words.next() {
+        counts.lower.push(number_of(lower)?)?;
+        if let Some(upper) = words.next() {
+            counts.upper.push(number_of(upper)?)?;
         }
-        below = !below;
     }
     Ok(counts)
 }

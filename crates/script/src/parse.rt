@@ -2,7 +2,7 @@
 use crate::call::{Call, KindName, Opening};
 use crate::hex::bytes_of;
 use crate::slip::{Problem, Slip};
-use crate::words::{Words, number_of};
+use crate::words::{Words, index_of, number_of};
 use line::Line;
 use std::alloc::Global;
 
@@ -13,14 +13,13 @@ fn numbers_to<'a>(
     end: &'static str,
 ) -> Result<Vec<i64>, Slip<'a>> {
     let mut numbers = Vec::new(heap);
-    for _ in 0..u64::MAX {
-        let word = words.word()?;
+    for word in words.by_ref() {
         if word == end {
-            break;
+            return Ok(numbers);
         }
         numbers.push(number_of(word)?)?;
     }
-    Ok(numbers)
+    Err(words.missing())
 }
 
 fn opening<'a>(heap: Global, words: &mut Words<'a>) -> Result<Opening, Slip<'a>> {
@@ -38,80 +37,39 @@ fn opening<'a>(heap: Global, words: &mut Words<'a>) -> Result<Opening, Slip<'a>>
     })
 }
 
-// The line of an operation with one operand.
-fn single(operation: &str, l: usize) -> Line {
-    match operation {
-        "channel" => Line::Channel(l),
-        "square" => Line::Square(l),
-        _ => Line::Magnitude(l),
-    }
-}
-
-// The line of an operation with two operands.
-fn pair(operation: &str, l: usize, r: usize) -> Line {
-    match operation {
-        "sum" => Line::Sum(l, r),
-        "difference" => Line::Difference(l, r),
-        "product" => Line::Product(l, r),
-        "quotient" => Line::Quotient(l, r),
-        "greater" => Line::Greater(l, r),
-        _ => Line::Lesser(l, r),
-    }
-}
-
 fn line_of<'a>(words: &mut Words<'a>) -> Result<Line, Slip<'a>> {
     let operation = words.word()?;
-    match operation {
-        "constant" => Ok(Line::Constant(words.number()?)),
-        "channel" | "square" | "magnitude" => Ok(single(operation, words.index()?)),
-        "sum" | "difference" | "product" | "quotient" | "greater" | "lesser" => {
-            Ok(pair(operation, words.index()?, words.index()?))
-        }
-        "branch" => Ok(Line::Branch(words.index()?, words.index()?, words.index()?)),
-        _ => Err(Slip {
-            word: operation,
-            problem: Problem::NoOperation,
-        }),
-    }
+    let line = match operation {
+        "channel" => Line::Channel(words.index()?),
+        "constant" => Line::Constant(words.number()?),
+        "sum" => Line::Sum(words.index()?, words.index()?),
+        "difference" => Line::Difference(words.index()?, words.index()?),
+        "product" => Line::Product(words.index()?, words.index()?),
+        "quotient" => Line::Quotient(words.index()?, words.index()?),
+        "square" => Line::Square(words.index()?),
+        "magnitude" => Line::Magnitude(words.index()?),
+        "greater" => Line::Greater(words.index()?, words.index()?),
+        "lesser" => Line::Lesser(words.index()?, words.index()?),
+        "branch" => Line::Branch(words.index()?, words.index()?, words.index()?),
+        _ => return Err(Problem::NoOperation.of(operation)),
+    };
+    Ok(line)
 }
 
 fn kind_of<'a>(words: &mut Words<'a>) -> Result<KindName, Slip<'a>> {
     let word = words.word()?;
-    match word {
-        "fixed" => Ok(KindName::Fixed),
-        "sliding" => Ok(KindName::Sliding),
-        _ => Err(Slip {
-            word,
-            problem: Problem::NoKind,
-        }),
-    }
+    word.parse().map_err(|problem: Problem| problem.of(word))
 }
 
 // A number of lines of the memory, at most `limit`.
-fn within<'a>(words: &mut Words<'a>, limit: i64) -> Result<usize, Slip<'a>> {
+fn within<'a>(words: &mut Words<'a>, limit: usize) -> Result<usize, Slip<'a>> {
     let word = words.word()?;
-    let n = number_of(word)?;
-    if n < 0 || n > limit {
-        return Err(Slip {
-            word,
-            problem: Problem::Beyond,
-        });
-    }
-    Ok(n as usize)
+    let n = usize::try_from(number_of(word)?).ok();
+    n.filter(|n| *n <= limit).ok_or(Problem::Beyond.of(word))
 }
 
 fn room<'a>(words: &mut Words<'a>) -> Result<Option<usize>, Slip<'a>> {
-    let Some(word) = words.next() else {
-        return Ok(None);
-    };
-    let n = number_of(word)?;
-    if n < 0 {
-        return Err(Slip {
-            word,
-            problem: Problem::NoIndex,
-        });
-    }
-    Ok(Some(n as usize))
+    words.next().map(index_of).transpose()
 }
 
 fn call<'a>(heap: Global, word: &'a str, words: &mut Words<'a>) -> Result<Call, Slip<'a>> {
@@ -127,10 +85,7 @@ fn call<'a>(heap: Global, word: &'a str, words: &mut Words<'a>) -> Result<Call, 
         "record" => Call::Record(words.index()?),
         "working" => Call::Working(within(words, 127)?),
         "spare" => Call::Spare(within(words, 127)?),
-        _ => return Err(Slip {
-            word,
-            problem: Problem::NoCall,
-        }),
+        _ => return Err(Problem::NoCall.of(word)),
     };
     words.end()?;
     Ok(call)
@@ -139,11 +94,9 @@ fn call<'a>(heap: Global, word: &'a str, words: &mut Words<'a>) -> Result<Call, 
 // The call of a line; empty lines and lines that begin with # have none.
 pub fn call_of(heap: Global, text: &str) -> Result<Option<Call>, Slip<'_>> {
     let mut words = Words::new(text);
-    let Some(word) = words.next() else {
-        return Ok(None);
-    };
-    if word.starts_with("#") {
-        return Ok(None);
+    match words.next() {
+        None => Ok(None),
+        Some(word) if word.starts_with("#") => Ok(None),
+        Some(word) => Ok(Some(call(heap, word, &mut words)?)),
     }
-    Ok(Some(call(heap, word, &mut words)?))
 }

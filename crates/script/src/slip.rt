@@ -1,8 +1,10 @@
 // What is wrong with a line of a script.
-use std::alloc::{AllocError, AllocFailed};
+ghost use Rattle.std.specs.Prelude.{◌≡◌};
+
+use std::alloc::AllocFailed;
 use std::fmt;
 
-#[derive(Clone, Copy, PartialEq)]
+#[derive(Clone, Copy, Debug, PartialEq, Eq)]
 pub enum Problem {
     NoCall,
     NoKind,
@@ -15,6 +17,19 @@ pub enum Problem {
     Beyond,
     NoByte,
     NoMemory,
+}
+
+impl Problem {
+    // The slip of a word that has the problem.
+    pub fn of(self, word: &str) -> Slip<'_>
+        ensures word { result.word.now ≡ word.now }
+        ensures problem { result.problem ≡ self }
+    {
+        Slip {
+            word,
+            problem: self,
+        }
+    }
 }
 
 impl fmt::Display for Problem {
@@ -36,26 +51,22 @@ impl fmt::Display for Problem {
 }
 
 // A problem and the word that has it.
-#[derive(Clone, Copy)]
+#[derive(Clone, Copy, Debug, PartialEq, Eq)]
 pub struct Slip<'a> {
     pub word: &'a str,
     pub problem: Problem,
 }
 
-impl From<AllocError> for Slip<'_> {
-    fn from(_error: AllocError) -> Self {
-        Slip {
-            word: "the line",
-            problem: Problem::NoMemory,
-        }
+impl fmt::Display for Slip<'_> {
+    fn fmt<W: fmt::Write>(&self, f: &mut fmt::Formatter<W>) -> fmt::Result {
+        let word = self.word;
+        let problem = self.problem;
+        write!(f, "'{word}' {problem}")
     }
 }
 
 impl<T: Drop> From<AllocFailed<T>> for Slip<'_> {
     fn from(_refused: AllocFailed<T>) -> Self {
-        Slip {
-            word: "the line",
-            problem: Problem::NoMemory,
-        }
+        Problem::NoMemory.of("the line")
     }
 }

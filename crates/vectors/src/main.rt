@@ -18,10 +18,7 @@ fn answer(heap: Global, station: &mut Station, text: &str) -> Result<Option<Stri
 
 // What stands before ` (`.
 fn told(answer: &str) -> &str {
-    match answer.split_once(" (") {
-        Some((told, _)) => told,
-        None => answer,
-    }
+    answer.split_once(" (").map_or(answer, |(told, _)| told)
 }
 
 // Whether an answer is the one expected; if not, prints both.
@@ -35,7 +32,8 @@ fn same(rt: &HostRuntime, given: &str, wanted: &str) -> anyhow::Result<bool> {
     Ok(false)
 }
 
-// Answers a script, and prints each answer that is not the one expected and how many are.
+// Answers a script, and prints each answer that is not the one expected and how many are. (A zip of the two would pass over what
+// one of them has too many.)
 fn run(rt: &HostRuntime, name: &str) -> anyhow::Result<()> {
     let heap = rt.alloc();
     let script = fs::read_to_string(rt, format!(in heap; "{name}.script")?)?;
@@ -52,7 +50,7 @@ fn run(rt: &HostRuntime, name: &str) -> anyhow::Result<()> {
             break;
         };
         if same(rt, given.as_str(), wanted)? {
-            right = right.wrapping_add(1);
+            right = right.saturating_add(1);
         }
     }
     if let Some(wanted) = expected.next() {
@@ -62,13 +60,20 @@ fn run(rt: &HostRuntime, name: &str) -> anyhow::Result<()> {
     Ok(())
 }
 
+// Each has its answers beside it.
+const SCRIPTS: [&str; 7] = [
+    "trials",
+    "calls-101",
+    "calls-102",
+    "calls-103",
+    "calls-104",
+    "calls-105",
+    "calls-106",
+];
+
 fn main(rt: HostRuntime) -> anyhow::Result<()> {
-    let rt = &rt;
-    run(rt, "trials")?;
-    run(rt, "calls-101")?;
-    run(rt, "calls-102")?;
-    run(rt, "calls-103")?;
-    run(rt, "calls-104")?;
-    run(rt, "calls-105")?;
-    run(rt, "calls-106")
+    for name in SCRIPTS {
+        run(&rt, name)?;
+    }
+    Ok(())
 }
