@@ -1,5 +1,5 @@
 -- The ends of the channels of a stored box.
-use Rattle.std.proofs.Common.{◌≡◌, ℕ, zero, suc, ◌<◌, ◌≤◌, List, [], ◌∷◌, length, get_or, map, take, Some, None, refl, ap, ◌∙◌, arith}
+use Rattle.std.proofs.Common.{◌≡◌, ℕ, zero, suc, ◌<◌, List, [], ◌∷◌, get_or, map, take, Some, refl, ap, ◌∙◌, arith}
 use Rattle.std.proofs.lemmas.Option.{slice_get-get_or, slice_get-map}
 use Rattle.std.specs.List.{slice_get}
 use Rattle.std.specs.Option.{option_map}
@@ -15,12 +15,6 @@ module _ {X : Type 0} where
   first_at (suc n) (x ∷ xs) zero h = refl
   first_at (suc n) (x ∷ xs) (suc i) h = first_at n xs i (omega arith)
 
-  past_first : (n : ℕ) (xs : List X) (i : ℕ) → n ≤ i → slice_get (take n xs) i ≡ None
-  past_first zero xs i h = refl
-  past_first (suc n) [] i h = refl
-  past_first (suc n) (x ∷ xs) zero h = absurd (omega arith)
-  past_first (suc n) (x ∷ xs) (suc i) h = past_first n xs i (omega arith)
-
 module _ (rs : List Range) (n c : ℕ) where
   -- an end of each of the first ranges
   end_at : {Y : Type 0} (f : Range → Y) {r : Range} → c < n → slice_get rs c ≡ Some r → slice_get (map f (take n rs)) c ≡ Some (f r)
@@ -31,9 +25,6 @@ module _ (rs : List Range) (n c : ℕ) where
 
   pub upper_at : {r : Range} → c < n → slice_get rs c ≡ Some r → slice_get (uppers (take n rs)) c ≡ Some r.upper
   upper_at = end_at (λ r. r.upper)
-
-  pub no_lower : n ≤ c → slice_get (lowers (take n rs)) c ≡ None
-  no_lower h = slice_get-map (λ r. r.lower) (take n rs) c ∙ ap (option_map (λ r. r.lower)) (past_first n rs c h)
 
 -- the range of channel c as the code reads it
 pub stored_at : (b : ChannelBox) (c : ℕ) (d : Range) → c < b.channels → slice_get b.ranges c ≡ Some (get_or b.ranges c d)

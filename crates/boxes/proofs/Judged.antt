@@ -38,9 +38,6 @@ pub record Judged (lower upper : List ℤ) (rs : List Range) (n : ℕ) : Type 0 
   pub rest : ranges 0 lower upper ≡ ranges n (drop n lower) (drop n upper)
 
 module _ {lower upper : List ℤ} where
-  pub judged_none : {rs : List Range} → length rs ≡ 8 → Judged lower upper rs 0
-  judged_none a = record { all = a; lows = refl; highs = refl; rest = refl }
-
   -- the ends of the next channel as the code has them
   module _ {rs : List Range} {n : ℕ} (j : Judged lower upper rs n) (k : n < length lower) (k' : n < length upper)
       {x y : ℤ} (ex : x ≡ get_or lower n (pos 0)) (ey : y ≡ get_or upper n (pos 0)) where

@@ -1,12 +1,10 @@
 -- The held lines of a sheet.
-use Rattle.std.proofs.Common.{◌≡◌, ◌+◌, ◌-◌, ◌<◌, ◌≤◌, Bool, true, false, cond, nat_lt, List, [], ◌∷◌, ◌++◌, length, take, set, Ok, Result, sym, refl, ap, ◌∙◌, arith, length-take-le, take-take}
+use Rattle.std.proofs.Common.{◌≡◌, ◌≤◌, Bool, true, false, cond, nat_lt, List, length, Ok, Result, sym, refl, arith, length-take-le}
 use Rattle.std.proofs.lemmas.Bool.{ltb-false}
 use Rattle.fault.proofs.Steps.{err_ok}
 use Rattle.fault.specs.Refusals.{refused}
 use Rattle.fault.specs.declared.fault.Cause.TheVariants.{Lines}
 use Rattle.fault.specs.declared.fault.Fault.{Fault}
-use Rattle.std.proofs.lemmas.List.{take_more_set}
-use Rattle.line.specs.declared.line.Line.{Line}
 use Rattle.sheet.specs.Calls.{enough}
 use Rattle.sheet.specs.Contents.{contents}
 use Rattle.sheet.specs.declared.sheet.Sheet.{Sheet}
@@ -14,12 +12,6 @@ use Rattle.sheet.specs.declared.sheet.Sheet.{Sheet}
 module _ (s : Sheet) where
   pub held_is : length (contents s).lines ≡ s.held
   held_is = length-take-le s.held s.lines (let f = s.few in let w = s.whole in omega arith)
-
-  pub one_less : take (s.held - 1) s.lines ≡ take (length (contents s).lines - 1) (contents s).lines
-  one_less = sym (take-take (s.held - 1) s.held s.lines (omega arith)) ∙ ap (λ k. take (k - 1) (contents s).lines) (sym held_is)
-
-  pub one_more : (l : Line) → s.held < 64 → take (s.held + 1) (set s.lines s.held l) ≡ (contents s).lines ++ l ∷ []
-  one_more l h = take_more_set s.lines s.held l (let w = s.whole in omega arith)
 
 -- enough lines are lent
 pub lent_enough : {R : Type 0} (w : List R) → Ok tt ≡ enough w → 64 ≤ length w

@@ -1,5 +1,4 @@
 pub mod Held
-pub mod Added
 pub mod ReadLines
 pub mod ReadFormula
 pub mod Reported

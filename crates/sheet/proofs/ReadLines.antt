@@ -1,6 +1,5 @@
 -- Reading line by line.
 use Rattle.std.proofs.Common.{◌≡◌, ℕ, suc, ◌+◌, ◌-◌, ◌<◌, ◌≤◌, true, List, [], ◌∷◌, ◌++◌, length, take, drop, set, is_ok, IsErrAnd, IfOk, IfErr, Ok, Err, Result, sym, refl, ap, ◌∙◌, subst, ap₂, true≢false, arith, length-set, take-append-drop, length-take-le, drop-drop, drop-set-lt, MatchResult}
-use native.Mathlib.Nat.{sub-zero}
 use Rattle.std.proofs.lemmas.List.{take_more_set}
 use Rattle.std.proofs.lemmas.Result.{err_from_is_err_and}
 use Rattle.boxes.specs.Boxes.{Box}
@@ -44,9 +43,6 @@ module _ {K : Type 0} (m : Model K) (b : Box) (count : ℕ) (bytes : List ℕ) (
     pub answer_is : r ≡ outcome.answer
     pub lines_are : is_ok r ≡ true → take count lines ≡ outcome.lines
     pub records_are : working ≡ overlaid outcome.records w0
-
-  pub going_none : (lines : List Line) → Going lines w0 from 0
-  going_none lines = record { so_far = ap (λ k. read_lines m b k bytes from [] []) (sym (sub-zero count)); rest = refl; long = refl; within = omega arith; some = omega arith }
 
   module _ {lines : List Line} {working : List (Record K)} {place n : ℕ} (g : Going lines working place n) where
     ended : (r : Result (Unit {0}) Fault) → (is_ok r ≡ true → n ≡ count) → outcome ≡ ends r (take n lines) (take n working) → Ended r lines working

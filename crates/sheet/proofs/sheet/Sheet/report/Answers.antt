@@ -1,14 +1,8 @@
-use Rattle.std.proofs.Common.{Err, ap, ◌∙◌, arith}
+use Rattle.std.proofs.Common.{arith}
 use Rattle.sheet.proofs.Held.{held_is, lent_enough}
-use Rattle.sheet.proofs.Reported.{not_held, of_held}
+use Rattle.sheet.proofs.Reported.{of_held}
 use Rattle.sheet.specs.Contents.{contents}
 use Rattle.sheet.proofs.sheet.Sheet.report.Goals as goal
-
-pub returns-then-line-self : goal.returns-then-line-self
-returns-then-line-self g c =
-    let s = c.args.self.now in
-    let l = held_is s in
-    ap Err c.at.ensures ∙ not_held g.K.NumberKind.model (contents s) c.args.working.now c.args.line (lent_enough c.args.working.now c.in_ok-enough.ensures) (omega (arith, l, c.if-line-self.true))
 
 pub returns : goal.returns
 returns g c =
