@@ -1,4 +1,4 @@
-// The lifting rule of curves.
+// The lifting rule of curves, by a chain of `let .. else`, as this project has its slope rules.
 ghost use Rattle.std.specs.Prelude.{◌≡◌, Option};
 ghost use Rattle.exact.specs.Fraction.{Frac};
 ghost use Rattle.slope.specs.declared.record.Shape.{Shape};

@@ -20,7 +20,7 @@ pub const MEMORY: usize = 128;
 // How many bytes are enough to write any sheet into.
 const ENOUGH: usize = 2048;
 
-// A sheet, the memory, and how much of it is lent to the calls.
+// A sheet, the memory, and how much of it is lent to the calls. (That is no length of the memory: every line can be read.)
 #[derive(Drop)]
 pub struct Desk<K: Units> {
     sheet: Sheet,

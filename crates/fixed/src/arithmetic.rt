@@ -82,6 +82,7 @@ fn quotient(a: Fixed, b: Fixed) -> Option<Ratio>
     Some(Ratio { n, d })
 }
 
+// Each operation is a line, as in the sliding kind: its exact result, rounded. A trait between the two and `NumberKind` would be longer.
 impl NumberKind for Fixed {
     ghost model = { fixed_model };
 

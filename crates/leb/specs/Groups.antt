@@ -6,6 +6,7 @@ abbrev pub joined : List ℕ → ℕ
 joined [] = 0
 joined (b ∷ bs) = b % 128 + 128 * joined bs
 
+-- the last of some groups
 abbrev pub last : List ℕ → ℕ
 last bs = slice_index bs (length bs - 1)
 

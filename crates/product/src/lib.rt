@@ -1,4 +1,4 @@
-// The product of two records.
+// The product of two records, by a chain of `let .. else`, as this project has its slope rules.
 #![tactic(auto)]
 
 ghost use Rattle.std.specs.Prelude.{◌≡◌};

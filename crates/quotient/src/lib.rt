@@ -1,4 +1,4 @@
-// The quotient of two records.
+// The quotient of two records, by a chain of `let .. else`, as this project has its slope rules.
 #![tactic(auto)]
 
 ghost use Rattle.std.specs.Prelude.{◌≡◌};

@@ -1,4 +1,5 @@
-// Numbers, lines and the count of lines.
+// Numbers, lines and the count of lines. (The place is a record of its own beside the bytes, since the guard is over it alone: so
+// this project has it.)
 ghost use Rattle.std.specs.Prelude.{◌≡◌};
 ghost use Rattle.reader.specs.Reading.{Stands};
 ghost use Rattle.reader.specs.Reading as reading;

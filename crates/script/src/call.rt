@@ -31,6 +31,7 @@ impl fmt::Display for KindName {
     }
 }
 
+// Two lists, since they may be of unequal length, which an open refuses.
 #[derive(Drop)]
 pub struct Opening {
     pub lower: Vec<i64>,

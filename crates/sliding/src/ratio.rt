@@ -60,7 +60,7 @@ impl Ratio {
     }
 }
 
-// n × 2^t / 2^j. It stands beside Ratio since it is rounded with no division.
+// n × 2^t / 2^j. It stands beside Ratio since it is rounded with no division: as a Ratio the same work took half as long again.
 #[derive(Clone, Copy)]
 pub struct Shift {
     pub n: i64,

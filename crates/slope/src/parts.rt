@@ -1,4 +1,5 @@
-// Channels, constants, sums and differences.
+// Channels, constants, sums and differences. (Two records and the line's number are what every rule is given: a struct of the
+// three would be taken apart again in each.)
 ghost use Rattle.std.specs.Prelude.{◌≡◌};
 ghost use Rattle.slope.specs.Rules.{given, rec, three};
 ghost use Rattle.exact.specs.Fraction.{◌+F◌, ◌-F◌};

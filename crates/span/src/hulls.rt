@@ -1,4 +1,5 @@
-// The hull of two spans, and what lies in both.
+// The hull of two spans, and what lies in both. (The one takes the outer ends and the other the inner: each is four lines, and a
+// closure for the choice of an end would be longer.)
 ghost use Rattle.std.specs.Prelude.{◌≡◌};
 ghost use Rattle.span.specs.Spans as spans;
 ghost use Rattle.span.specs.Laws.{HullLaw, MeetLaw};

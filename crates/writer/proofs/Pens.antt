@@ -1,12 +1,9 @@
 -- One list of bytes written after another.
-use Rattle.std.proofs.Common.{ℕ, List, [], ◌++◌, length, take, drop, sym, ap, ◌∙◌, ap₂, add-zero, arith, length-append, refl, take-append-drop}
+use Rattle.std.proofs.Common.{ℕ, List, ◌++◌, length, ap, ◌∙◌, ap₂, arith, length-append}
 use Rattle.writer.proofs.Overlay.{length_written, written_append}
 use Rattle.writer.specs.Pens.{Fits, Wrote}
 use Rattle.writer.specs.Writing.{written}
 use Rattle.writer.specs.declared.pen.Pen.{Pen}
-
-pub wrote_none : (p : Pen) → Wrote p p []
-wrote_none p = (refl, sym (take-append-drop p.at p.out.now) ∙ ap (λ k. take p.at p.out.now ++ drop k p.out.now) (sym (add-zero p.at)), omega arith)
 
 pub fits_then : (p q : Pen) (xs ys : List ℕ) → Fits p (xs ++ ys) → Wrote p q xs → Fits q ys
 fits_then p q xs ys f w =

@@ -29,6 +29,7 @@ impl Pen<'_> {
         requires { Fits self.old (held_bytes n) }
         ensures { Wrote self.old self.new (held_bytes n) }
     {
+        // the pen's place moves on with each byte, and stands behind the last
         for byte in (Groups { rest: n }) {
             self.out[self.at] = byte;
             self.at += 1;
