@@ -12,11 +12,15 @@ use kind::NumberKind;
 
 impl Fixed {
     // The mark of a number of counts. The marks of this kind are m/65,536 for each count m, and no others.
+    #[tactic(auto, using(crate::specs::Rules::fixed_marks))]
     pub fn of_count(n: i64) -> Option<Fixed>
         ensures value { result ≡ mark_of n }
         ensures marks { FixedMarks }
     {
-        marked(n)
+        if n.unsigned_abs() > TOP {
+            return None;
+        }
+        Some(Fixed { count: n as i32 })
     }
 
     pub(crate) fn opposite(self) -> Fixed
@@ -24,15 +28,6 @@ impl Fixed {
     {
         Fixed { count: -self.count }
     }
-}
-
-fn marked(n: i64) -> Option<Fixed>
-    ensures { result ≡ mark_of n }
-{
-    if n.unsigned_abs() > TOP {
-        return None;
-    }
-    Some(Fixed { count: n as i32 })
 }
 
 // n counts

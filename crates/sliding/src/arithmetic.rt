@@ -12,27 +12,22 @@ use crate::ratio::{Ratio, Shift};
 use crate::rounding::scaled;
 use kind::NumberKind;
 
-fn stored(mantissa: i32, scale: u32) -> Option<Sliding>
-    ensures { result ≡ stored_as mantissa scale }
-{
-    let size = mantissa.unsigned_abs();
-    if size > 16_777_215 || scale > 32 {
-        return None;
-    }
-    if scale > 0 && size < 8_388_608 {
-        return None;
-    }
-    Some(Sliding { mantissa, scale })
-}
-
 impl Sliding {
     // The mark with this stored form, if it is one. The marks of this kind are m × 2^e for m of at most 24 bits and e
     // from −24 to 8, and no others; each has one stored form.
+    #[tactic(auto, using(crate::proofs::Stored::sliding_marks))]
     pub fn of_parts(mantissa: i32, scale: u32) -> Option<Sliding>
         ensures value { result ≡ stored_as mantissa scale }
         ensures marks { SlidingMarks }
     {
-        stored(mantissa, scale)
+        let size = mantissa.unsigned_abs();
+        if size > 16_777_215 || scale > 32 {
+            return None;
+        }
+        if scale > 0 && size < 8_388_608 {
+            return None;
+        }
+        Some(Sliding { mantissa, scale })
     }
 
     // The mark in whole 1/16,777,216, exactly.
