@@ -1,14 +1,9 @@
--- The exits of `?`.
-use Rattle.std.proofs.Common.{◌≡◌, ℕ, IsErrAnd, Some, None, Ok, Err, Option, Result, sym, refl, ap, ◌∙◌, subst, MatchResult}
-use Rattle.std.proofs.lemmas.Result.{err_from_is_err_and}
+-- Steps in turn.
+use Rattle.std.proofs.Common.{◌≡◌, ℕ, Some, None, Ok, Err, Option, Result, sym, refl, ap, subst, MatchResult}
 use Rattle.exact.specs.Optional.{◌>>=◌}
 use Rattle.fault.specs.Refusals.{after}
 use Rattle.fault.specs.declared.fault.Fault.{Fault}
 use Rattle.slope.specs.Rules.{given}
-
--- what a refused step returns
-pub exit : {X Y : Type 0} (r : Result Y Fault) (e : Fault) (F : Result X Fault) (f : X → Result Y Fault) → IsErrAnd r (λ y. y ≡ e) → Err e ≡ F → r ≡ after F f
-exit r e F f b q = let p = err_from_is_err_and r b in p.1 ∙ ap Err p.2 ∙ ap (λ o. after o f) q
 
 -- three steps, the last two together
 pub last_two : {X Y Z V : Type 0} (f : X × Y × Z → Result V Fault) (x : Result X Fault) (y : Result Y Fault) (z : Result Z Fault)

@@ -1,9 +1,9 @@
 -- Reporting, case by case.
-use Rattle.std.proofs.Common.{◌≡◌, ℕ, ◌<◌, ◌≤◌, List, length, get_or, take, Some, Ok, Option, Result, sym, ap, ◌∙◌, arith, length-take, length-take-le, get_or-take}
-use Rattle.std.proofs.lemmas.Option.{slice_get-get_or, slice_get_past}
+use Rattle.std.proofs.Common.{◌≡◌, ℕ, ◌<◌, ◌≤◌, List, length, get_or, take, Some, Ok, Option, Result, sym, ap, ◌∙◌, arith, length-take-le, get_or-take}
+use Rattle.std.proofs.lemmas.Option.{slice_get-get_or}
 use Rattle.std.proofs.lemmas.Bool.{le-ltb}
 use Rattle.std.specs.List.{slice_get}
-use Rattle.fault.specs.Refusals.{after, found, refused}
+use Rattle.fault.specs.Refusals.{after, found}
 use Rattle.fault.specs.declared.fault.Cause.TheVariants.{NoLine}
 use Rattle.fault.specs.declared.fault.Fault.{Fault}
 use Rattle.kind.specs.Model.{Model}
@@ -19,9 +19,6 @@ module _ {K : Type 0} (m : Model K) (s : Contents) (w : List (Record K)) (line :
 
   report_is : report m s w line ≡ by_record (slice_get (take (length s.lines) w) line)
   report_is = rw (le-ltb (length w) 64 lent)
-
-  pub not_held : length s.lines ≤ line → refused NoLine line ≡ report m s w line
-  not_held h = sym (report_is ∙ ap by_record (slice_get_past (take (length s.lines) w) line (omega (arith, length-take (length s.lines) w))))
 
   pub of_held : (x : Record K) {a : Report} → line < length s.lines → length s.lines ≤ 64 → x ≡ get_or w line x → a ≡ reported m s.over x → Ok a ≡ report m s w line
   of_held x h few got e = ap Ok e ∙ sym (report_is ∙ ap by_record here)

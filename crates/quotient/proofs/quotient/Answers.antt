@@ -1,12 +1,6 @@
-use Rattle.std.proofs.Common.{Ok, Err, rules}
+use Rattle.std.proofs.Common.{Ok, rules}
 use Rattle.quotient.proofs.Kept.{quotient_law}
 use Rattle.quotient.proofs.quotient.Goals as goal
-
-pub returns-then-holds_zero-clause-truth : goal.returns-then-holds_zero-clause-truth
-returns-then-holds_zero-clause-truth g c = quotient_law g.K.NumberKind.model g.met.K.NumberKind.rules c.args.place c.args.p.now c.args.q.now (Err c.at.result) (search rules)
-
-pub returns-in_err-u-clause-truth : goal.returns-in_err-u-clause-truth
-returns-in_err-u-clause-truth g c = quotient_law g.K.NumberKind.model g.met.K.NumberKind.rules c.args.place c.args.p.now c.args.q.now _ (search rules)
 
 pub returns-in_err-u0-clause-truth : goal.returns-in_err-u0-clause-truth
 returns-in_err-u0-clause-truth g c = quotient_law g.K.NumberKind.model g.met.K.NumberKind.rules c.args.place c.args.p.now c.args.q.now _ (search rules)
