@@ -51,7 +51,8 @@ impl ChannelBox {
         }
     }
 
-    // The box of lower and upper ends, a swept channel and its centre. It is judged channel by channel, up to the first bad one.
+    // The box of lower and upper ends, a swept channel and its centre. It is judged channel by channel, up to the first bad one. (This
+    // project has a box as two lists of counts; they may be of unequal length, which is refused.)
     pub fn opened(
         lower: &[i64],
         upper: &[i64],

@@ -20,7 +20,7 @@ pub const MEMORY: usize = 128;
 // How many bytes are enough to write any sheet into.
 const ENOUGH: usize = 2048;
 
-// A sheet, the memory, and how much of it is lent to the calls. (That is no length of the memory: every line can be read.)
+// A sheet, the memory, and how much of it is lent to the calls. (`lent` is no length of the arrays: every line of them can be read.)
 #[derive(Drop)]
 pub struct Desk<K: Units> {
     sheet: Sheet,
@@ -49,7 +49,8 @@ fn held<K: Units>(
     format!(in heap; "{call} {line}: {held}")
 }
 
-// The midpoint of channel 0, rounded down. Ends that are no counts are refused before their midpoint is read.
+// The midpoint of channel 0, rounded down. Ends that are no counts, or no channel at all, are refused before it is read. (The two
+// lists are lent, here and below, as the sheet's open has them.)
 fn midpoint(lower: &[i64], upper: &[i64]) -> i64 {
     let (Some(l), Some(u)) = (lower.first(), upper.first()) else {
         return 0;
@@ -77,8 +78,8 @@ impl<K: Units> Desk<K> {
 
     pub fn open(&mut self, heap: Global, opening: &Opening) -> Result<String, AllocError> {
         let answer = self.sheet.open(
-            opening.lower.as_slice(),
-            opening.upper.as_slice(),
+            opening.counts.lower.as_slice(),
+            opening.counts.upper.as_slice(),
             opening.swept,
             opening.centre,
         );

@@ -1,9 +1,9 @@
-// What may come of a station's window but a report.
+// Why a window has no report.
 use fault::Fault;
 use std::error::Error;
 use std::fmt;
 
-// The call of a window that was refused, and why.
+// The call that was refused, by its name as it is printed, and why.
 #[derive(Clone, Copy, Debug, PartialEq, Eq)]
 pub struct Refused {
     pub call: &'static str,

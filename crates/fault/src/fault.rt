@@ -12,7 +12,7 @@ pub enum Cause {
     Order,
     // a centre outside its range
     Centre,
-    // fewer than 64 working or spare lines
+    // fewer than 64 lines lent
     Lines,
     // 64 lines are held
     Full,

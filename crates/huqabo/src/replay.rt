@@ -28,8 +28,6 @@ pub fn replay(rt: &HostRuntime, file: Option<String>) -> Result<(), Stop> {
     let Some(name) = file else {
         return steps(rt, BufReader::new(rt.alloc(), rt.stdin())?);
     };
-    match fs::read_to_string(rt, name.as_str()) {
-        Ok(text) => steps(rt, text.as_bytes()),
-        Err(_) => Err(unread(rt, name.as_str())),
-    }
+    let text = fs::read_to_string(rt, name.as_str()).map_err(|_| unread(rt, name.as_str()))?;
+    steps(rt, text.as_bytes())
 }

@@ -25,10 +25,7 @@ impl From<AllocError> for Stop {
 
 // The stop for what was said to standard error.
 fn after(said: io::Result<()>) -> Stop {
-    match said {
-        Ok(()) => Stop::Said,
-        Err(error) => Stop::from(error),
-    }
+    said.map_or_else(Stop::from, |()| Stop::Said)
 }
 
 // Says which word of which line is wrong, and stops.

@@ -7,9 +7,7 @@ use std::{fmt, fs};
 
 // The formula of a file with bytes in hexadecimal. Lines that begin with # are passed over.
 fn formula_of(rt: &HostRuntime, file: &str) -> Result<Vec<u8>, Stop> {
-    let Ok(text) = fs::read_to_string(rt, file) else {
-        return Err(unread(rt, file));
-    };
+    let text = fs::read_to_string(rt, file).map_err(|_| unread(rt, file))?;
     let mut bytes = Vec::new(rt.alloc());
     for (line, digits) in (1u64..).zip(text.lines()) {
         if !digits.starts_with("#") {
@@ -19,6 +17,7 @@ fn formula_of(rt: &HostRuntime, file: &str) -> Result<Vec<u8>, Stop> {
     Ok(bytes)
 }
 
+// The arguments are line 0 of what may be wrong.
 fn kind_of(rt: &HostRuntime, name: Option<String>) -> Result<KindName, Stop> {
     let Some(word) = name else {
         return Ok(KindName::Fixed);
@@ -34,7 +33,7 @@ struct Tally {
 }
 
 impl Tally {
-    // Counts a window in.
+    // Counts a window in, which is reported or refused.
     fn count(&mut self, reported: bool) {
         let tally = if reported {
             &mut self.reported
@@ -82,9 +81,7 @@ pub fn windows(
     formula: Option<String>,
     kind: Option<String>,
 ) -> Result<(), Stop> {
-    let Some(file) = formula else {
-        return Err(slipped(rt, 0, Problem::Missing.of("windows")));
-    };
+    let file = formula.ok_or_else(|| slipped(rt, 0, Problem::Missing.of("windows")))?;
     let kind = kind_of(rt, kind)?;
     let formula = formula_of(rt, file.as_str())?;
     let mut station = Station::blank(kind);

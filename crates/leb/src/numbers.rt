@@ -10,7 +10,7 @@ use fault::Cause;
 const LARGEST: u64 = 2_147_483_647;
 
 // Where the last group of a number stands, if it is there.
-fn last_group(bytes: &[u8]) -> Option<usize>
+fn last_at(bytes: &[u8]) -> Option<usize>
     ensures { result ≡ position (λ b. nat_lt b 128) bytes.now }
 {
     bytes.iter().position(|byte| *byte < 128)
@@ -50,13 +50,9 @@ fn first_number(bytes: &[u8]) -> Result<(u32, usize), Cause>
     ensures size { IfOk result (λ p. p.1 ≡ size bytes.now) }
     ensures fits { IfOk result (λ p. p.1 ≤ length bytes.now) }
 {
-    let Some(last) = last_group(bytes) else {
-        return Err(Cause::Early);
-    };
+    let last = last_at(bytes).ok_or(Cause::Early)?;
     let groups = &bytes[..=last];
-    let Some(n) = judged(groups) else {
-        return Err(Cause::Form);
-    };
+    let n = judged(groups).ok_or(Cause::Form)?;
     Ok((n, groups.len()))
 }
 
@@ -68,7 +64,7 @@ fn bytes_from(bytes: &[u8], place: Place) -> &[u8]
 }
 
 // The number at a place, which then stands behind it. A refusal leaves the place. What is written as a number is read back, and
-// what was read has no other form.
+// what was read has no other form. (The place is a record of its own beside the bytes, for the guard of a reader.)
 #[tactic(auto, using(crate::proofs::Trip::round_trips))]
 pub fn number(bytes: &[u8], place: &mut Place) -> Result<u32, Cause>
     ensures value { result ≡ decode (drop place.old.at bytes.now) }

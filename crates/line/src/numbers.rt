@@ -32,9 +32,9 @@ fn unfold(w: u32) -> i64
     ensures { result ≡ unfolded w }
 {
     if w % 2 == 0 {
-        (w / 2) as i64
+        i64::from(w / 2)
     } else {
-        -1 - (w / 2) as i64
+        -1 - i64::from(w / 2)
     }
 }
 

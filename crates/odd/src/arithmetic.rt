@@ -9,6 +9,7 @@ ghost use Rattle.odd.specs.Signs.{sign_rules};
 use crate::sign::Sign;
 use kind::NumberKind;
 
+// This and the next have contracts, which a `From` and a `TryFrom` of all callers need not have.
 fn whole(s: Sign) -> i64
     ensures { result ≡ signs.whole s }
 {
@@ -56,6 +57,7 @@ fn product(a: Sign, b: Sign) -> Option<Sign>
     }
 }
 
+// As the product, but absent for 0; by `product` it would be no shorter.
 fn quotient(a: Sign, b: Sign) -> Option<Sign>
     ensures below { result ≡ kinds.quotient_below sign_model a b }
     ensures above { result ≡ kinds.quotient_above sign_model a b }

@@ -1,7 +1,7 @@
 // The product of two records, by a chain of `let .. else`, as this project has its slope rules.
 #![tactic(auto)]
 
-ghost use Rattle.std.specs.Prelude.{◌≡◌};
+ghost use Rattle.std.specs.Prelude.{◌≡◌, None};
 ghost use Rattle.slope.specs.Rules.{given, rec};
 ghost use Rattle.exact.specs.Fraction.{◌*F◌};
 ghost use Rattle.slope.specs.Rules as rules;
@@ -10,14 +10,13 @@ ghost use Rattle.span.specs.Spans as spans;
 
 use fault::Fault;
 use kind::NumberKind;
-use slope::{Record, present};
-use span::Span;
+use slope::{Record, Slopes, present};
 
 // A = Au × V0 + U × Av; B = Bu × V0 + U0 × Bv; C = Cu × V0 + U × Cv + Au × Bv
-fn product_slopes<K: NumberKind>(u: Span<K>, u0: Span<K>, p: &Record<K>, q: &Record<K>) -> Record<K>
-    ensures { result ≡ rec u u0 (rules.product_slopes K.NumberKind.model p.now q.now) }
+fn product_slopes<K: NumberKind>(flat: Record<K>, p: &Record<K>, q: &Record<K>) -> Record<K>
+    requires { flat.slopes ≡ None }
+    ensures { result ≡ rec flat.u flat.u0 (rules.product_slopes K.NumberKind.model p.now q.now) }
 {
-    let flat = Record::flat(u, u0);
     let Some(s) = &p.slopes else {
         return flat;
     };
@@ -57,7 +56,7 @@ fn product_slopes<K: NumberKind>(u: Span<K>, u0: Span<K>, p: &Record<K>, q: &Rec
     let Some(c) = c12.sum(c3) else {
         return flat;
     };
-    flat.sloped(a, b, c)
+    flat.sloped(Slopes { a, b, c })
 }
 
 // The record of a product.
@@ -71,5 +70,5 @@ pub fn product<K: NumberKind>(
 {
     let u = present(p.u.product(q.u), place)?;
     let u0 = present(p.u0.product(q.u0), place)?;
-    Ok(product_slopes(u, u0, p, q))
+    Ok(product_slopes(Record::flat(u, u0), p, q))
 }

@@ -1,7 +1,7 @@
 // The quotient of two records, by a chain of `let .. else`, as this project has its slope rules.
 #![tactic(auto)]
 
-ghost use Rattle.std.specs.Prelude.{◌≡◌};
+ghost use Rattle.std.specs.Prelude.{◌≡◌, None};
 ghost use Rattle.slope.specs.Rules.{divided, rec};
 ghost use Rattle.slope.specs.Rules as rules;
 ghost use Rattle.slope.specs.Truth.{Divided};
@@ -9,26 +9,20 @@ ghost use Rattle.span.specs.Spans as spans;
 
 use fault::{Cause, Fault};
 use kind::NumberKind;
-use slope::{Record, present};
-use span::Span;
+use slope::{Record, Slopes, present};
 
 // W0 = U0 / V0; A = (Au − W0 × Av) / V; B = (Bu − W0 × Bv) / V0; C = (Cu − W0 × Cv − B × Av) / V
-fn quotient_slopes<K: NumberKind>(
-    u: Span<K>,
-    u0: Span<K>,
-    p: &Record<K>,
-    q: &Record<K>,
-) -> Record<K>
-    ensures { result ≡ rec u u0 (rules.quotient_slopes K.NumberKind.model p.now q.now u0) }
+fn quotient_slopes<K: NumberKind>(flat: Record<K>, p: &Record<K>, q: &Record<K>) -> Record<K>
+    requires { flat.slopes ≡ None }
+    ensures { result ≡ rec flat.u flat.u0 (rules.quotient_slopes K.NumberKind.model p.now q.now flat.u0) }
 {
-    let flat = Record::flat(u, u0);
     let Some(s) = &p.slopes else {
         return flat;
     };
     let Some(t) = &q.slopes else {
         return flat;
     };
-    let Some(a1) = u0.product(t.a) else {
+    let Some(a1) = flat.u0.product(t.a) else {
         return flat;
     };
     let Some(a2) = s.a.difference(a1) else {
@@ -37,7 +31,7 @@ fn quotient_slopes<K: NumberKind>(
     let Some(a) = a2.quotient(q.u) else {
         return flat;
     };
-    let Some(b1) = u0.product(t.b) else {
+    let Some(b1) = flat.u0.product(t.b) else {
         return flat;
     };
     let Some(b2) = s.b.difference(b1) else {
@@ -46,7 +40,7 @@ fn quotient_slopes<K: NumberKind>(
     let Some(b) = b2.quotient(q.u0) else {
         return flat;
     };
-    let Some(c1) = u0.product(t.c) else {
+    let Some(c1) = flat.u0.product(t.c) else {
         return flat;
     };
     let Some(c2) = s.c.difference(c1) else {
@@ -61,7 +55,7 @@ fn quotient_slopes<K: NumberKind>(
     let Some(c) = c4.quotient(q.u) else {
         return flat;
     };
-    flat.sloped(a, b, c)
+    flat.sloped(Slopes { a, b, c })
 }
 
 // The record of a quotient. Refused first where the divisor's span over the box holds 0.
@@ -78,5 +72,5 @@ pub fn quotient<K: NumberKind>(
     }
     let u = present(p.u.quotient(q.u), place)?;
     let u0 = present(p.u0.quotient(q.u0), place)?;
-    Ok(quotient_slopes(u, u0, p, q))
+    Ok(quotient_slopes(Record::flat(u, u0), p, q))
 }

@@ -16,7 +16,7 @@ fn operand(bytes: &[u8], place: &mut Place, line: usize) -> Result<u32, Fault>
     number(bytes, place).map_err(|cause| cause.at(line))
 }
 
-// An operand that the operation may not have: 0 then. One function for both, since an `if` at each call is longer.
+// An operand that the operation may not have: then 0, which `line_of` passes over. (One function, since an `if` at each call is longer.)
 fn operand_if(wanted: bool, bytes: &[u8], place: &mut Place, line: usize) -> Result<u32, Fault>
     ensures { Stands (reading.operand_at wanted bytes.now place.old.at line) result place.old.at place.new.at }
 {

@@ -59,6 +59,7 @@ fn operand<K: NumberKind>(earlier: &[Record<K>], l: usize) -> Result<&Record<K>,
     earlier.get(l).ok_or(Cause::Operand.at(earlier.len()))
 }
 
+// Each rule with two operands asks for both by this; an arm of its own for each is shorter than a closure over the rules.
 fn two<K: NumberKind>(
     earlier: &[Record<K>],
     l: usize,

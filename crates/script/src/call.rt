@@ -1,4 +1,7 @@
 // Calls of a script.
+ghost use Rattle.script.specs.Kinds.{Named};
+
+use crate::counts::Counts;
 use crate::slip::Problem;
 use line::Line;
 use std::fmt;
@@ -12,6 +15,8 @@ pub enum KindName {
 
 impl FromStr for KindName {
     type Err = Problem;
+
+    ghost from_str_gives = { Named };
 
     fn from_str(word: &str) -> Result<KindName, Problem> {
         match word {
@@ -31,11 +36,9 @@ impl fmt::Display for KindName {
     }
 }
 
-// Two lists, since they may be of unequal length, which an open refuses.
 #[derive(Drop)]
 pub struct Opening {
-    pub lower: Vec<i64>,
-    pub upper: Vec<i64>,
+    pub counts: Counts,
     pub swept: usize,
     pub centre: i64,
 }

@@ -1,5 +1,6 @@
 // Lines of a script as calls.
 use crate::call::{Call, KindName, Opening};
+use crate::counts::Counts;
 use crate::hex::bytes_of;
 use crate::slip::{Problem, Slip};
 use crate::words::{Words, index_of, number_of};
@@ -30,8 +31,7 @@ fn opening<'a>(heap: Global, words: &mut Words<'a>) -> Result<Opening, Slip<'a>>
     words.expect("centre")?;
     let centre = words.number()?;
     Ok(Opening {
-        lower,
-        upper,
+        counts: Counts { lower, upper },
         swept,
         centre,
     })

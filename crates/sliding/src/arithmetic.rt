@@ -123,6 +123,7 @@ fn quotient(a: Sliding, b: Sliding) -> Option<Ratio>
     Some(over(a, b))
 }
 
+// Each operation is a line, as in the fixed kind: its exact result, rounded. A trait between the two and `NumberKind` would be longer.
 impl NumberKind for Sliding {
     ghost model = { sliding_model };
 

@@ -1,26 +1,30 @@
 // The greater, the lesser and the branch: one record as it stands where the spans decide, else both joined.
-ghost use Rattle.std.specs.Prelude.{◌≡◌};
+ghost use Rattle.std.specs.Prelude.{◌≡◌, None};
 ghost use Rattle.slope.specs.Rules.{rec};
 ghost use Rattle.exact.specs.Fraction.{max_F, min_F};
 ghost use Rattle.slope.specs.Rules as rules;
 ghost use Rattle.slope.specs.Truth.{Chosen, Branched};
 ghost use Rattle.span.specs.Spans.{hull};
 
-use crate::record::Record;
+use crate::record::{Record, Slopes};
 use kind::NumberKind;
 use span::Span;
 
-fn joined<K: NumberKind>(u: Span<K>, u0: Span<K>, p: &Record<K>, q: &Record<K>) -> Record<K>
-    ensures { result ≡ rec u u0 (rules.hulls K.NumberKind.model p.now q.now) }
+fn joined<K: NumberKind>(flat: Record<K>, p: &Record<K>, q: &Record<K>) -> Record<K>
+    requires { flat.slopes ≡ None }
+    ensures { result ≡ rec flat.u flat.u0 (rules.hulls K.NumberKind.model p.now q.now) }
 {
-    let flat = Record::flat(u, u0);
     let Some(s) = &p.slopes else {
         return flat;
     };
     let Some(t) = &q.slopes else {
         return flat;
     };
-    flat.sloped(s.a.hull(t.a), s.b.hull(t.b), s.c.hull(t.c))
+    flat.sloped(Slopes {
+        a: s.a.hull(t.a),
+        b: s.b.hull(t.b),
+        c: s.c.hull(t.c),
+    })
 }
 
 // The record of the greater. On a tie it is the first operand's.
@@ -33,7 +37,8 @@ pub fn greater<K: NumberKind>(p: &Record<K>, q: &Record<K>) -> Record<K>
     } else if q.u.clears(p.u) {
         *q
     } else {
-        joined(p.u.greater(q.u), p.u0.greater(q.u0), p, q)
+        let flat = Record::flat(p.u.greater(q.u), p.u0.greater(q.u0));
+        joined(flat, p, q)
     }
 }
 
@@ -47,7 +52,8 @@ pub fn lesser<K: NumberKind>(p: &Record<K>, q: &Record<K>) -> Record<K>
     } else if p.u.clears(q.u) {
         *q
     } else {
-        joined(p.u.lesser(q.u), p.u0.lesser(q.u0), p, q)
+        let flat = Record::flat(p.u.lesser(q.u), p.u0.lesser(q.u0));
+        joined(flat, p, q)
     }
 }
 

@@ -1,6 +1,6 @@
 // Channels, constants, sums and differences. (Two records and the line's number are what every rule is given: a struct of the
 // three would be taken apart again in each.)
-ghost use Rattle.std.specs.Prelude.{◌≡◌};
+ghost use Rattle.std.specs.Prelude.{◌≡◌, None};
 ghost use Rattle.slope.specs.Rules.{given, rec, three};
 ghost use Rattle.exact.specs.Fraction.{◌+F◌, ◌-F◌};
 ghost use Rattle.slope.specs.Rules as rules;
@@ -17,7 +17,11 @@ fn straight<K: NumberKind>(u: Span<K>, u0: Span<K>, s: K) -> Record<K>
     ensures { result ≡ rec u u0 (three (spans.point K.NumberKind.model s) (spans.point K.NumberKind.model s) (spans.zero_span K.NumberKind.model)) }
 {
     let s = Span::point(s);
-    Record::flat(u, u0).sloped(s, s, Span::point(K::zero()))
+    Record::flat(u, u0).sloped(Slopes {
+        a: s,
+        b: s,
+        c: Span::point(K::zero()),
+    })
 }
 
 // The swept channel, with the span of its range and that of its centre.
@@ -34,10 +38,10 @@ pub fn still<K: NumberKind>(x: Span<K>) -> Record<K>
     straight(x, x, K::zero())
 }
 
-fn sum_slopes<K: NumberKind>(u: Span<K>, u0: Span<K>, p: &Record<K>, q: &Record<K>) -> Record<K>
-    ensures { result ≡ rec u u0 (rules.part_slopes (spans.sum K.NumberKind.model) p.now q.now) }
+fn sum_slopes<K: NumberKind>(flat: Record<K>, p: &Record<K>, q: &Record<K>) -> Record<K>
+    requires { flat.slopes ≡ None }
+    ensures { result ≡ rec flat.u flat.u0 (rules.part_slopes (spans.sum K.NumberKind.model) p.now q.now) }
 {
-    let flat = Record::flat(u, u0);
     let Some(s) = &p.slopes else {
         return flat;
     };
@@ -53,7 +57,7 @@ fn sum_slopes<K: NumberKind>(u: Span<K>, u0: Span<K>, p: &Record<K>, q: &Record<
     let Some(c) = s.c.sum(t.c) else {
         return flat;
     };
-    flat.sloped(a, b, c)
+    flat.sloped(Slopes { a, b, c })
 }
 
 pub fn sum<K: NumberKind>(p: &Record<K>, q: &Record<K>, place: usize) -> Result<Record<K>, Fault>
@@ -62,7 +66,7 @@ pub fn sum<K: NumberKind>(p: &Record<K>, q: &Record<K>, place: usize) -> Result<
 {
     let u = present(p.u.sum(q.u), place)?;
     let u0 = present(p.u0.sum(q.u0), place)?;
-    Ok(sum_slopes(u, u0, p, q))
+    Ok(sum_slopes(Record::flat(u, u0), p, q))
 }
 
 // The negative of a record, part by part.

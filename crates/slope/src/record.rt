@@ -1,6 +1,6 @@
 // Records of lines.
-ghost use Rattle.std.specs.Prelude.{◌≡◌, None};
-ghost use Rattle.slope.specs.Rules.{given, rec, three};
+ghost use Rattle.std.specs.Prelude.{◌≡◌, None, Some};
+ghost use Rattle.slope.specs.Rules.{given, rec};
 
 use fault::{Cause, Fault};
 use kind::NumberKind;
@@ -31,7 +31,7 @@ pub struct Shape<K: NumberKind> {
 }
 
 impl<K: NumberKind> Record<K> {
-    // A record with no slopes. (U and U0 are handed on as two spans: a struct of them would name the record's fields again.)
+    // A record with no slopes.
     pub fn flat(u: Span<K>, u0: Span<K>) -> Record<K>
         ensures { result ≡ rec u u0 None }
     {
@@ -43,11 +43,11 @@ impl<K: NumberKind> Record<K> {
     }
 
     // The record with these slopes in place of its own.
-    pub fn sloped(self, a: Span<K>, b: Span<K>, c: Span<K>) -> Record<K>
-        ensures { result ≡ rec self.u self.u0 (three a b c) }
+    pub fn sloped(self, slopes: Slopes<K>) -> Record<K>
+        ensures { result ≡ rec self.u self.u0 (Some slopes) }
     {
         Record {
-            slopes: Some(Slopes { a, b, c }),
+            slopes: Some(slopes),
             ..self
         }
     }

@@ -27,7 +27,7 @@ fn formula_width(lines: &[Line]) -> usize
     width(Some(lines.len() as u64)) + lines_width
 }
 
-// How many bytes the lines take, unless they are no formula or there are too few to write to.
+// How many bytes the formula takes; refused for no lines, for more than 64, or for too few bytes to write to.
 fn room_for(lines: &[Line], out: &[u8]) -> Result<usize, Fault>
     ensures answer { result ≡ needed lines.now out.now }
     ensures fits { IfOk result (λ _. length (formula_bytes lines.now) ≤ length out.now) }

@@ -29,7 +29,7 @@ impl Pen<'_> {
         requires { Fits self.old (held_bytes n) }
         ensures { Wrote self.old self.new (held_bytes n) }
     {
-        // the pen's place moves on with each byte, and stands behind the last
+        // The place moves on by hand, since it outlives the loop: by a zip it would have to be moved afterwards by a count.
         for byte in (Groups { rest: n }) {
             self.out[self.at] = byte;
             self.at += 1;
