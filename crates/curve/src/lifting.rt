@@ -1,5 +1,5 @@
 // The lifting rule of curves, by a chain of `let .. else`, as this project has its slope rules.
-ghost use Rattle.std.specs.Prelude.{◌≡◌, None, Option};
+ghost use Rattle.std.specs.Prelude.{◌≡◌, Option};
 ghost use Rattle.exact.specs.Fraction.{Frac};
 ghost use Rattle.slope.specs.declared.record.Shape.{Shape};
 ghost use Rattle.span.specs.declared.span.Span.{Span};
@@ -9,7 +9,7 @@ ghost use Rattle.slope.specs.Rules.{given, rec};
 
 use fault::Fault;
 use kind::NumberKind;
-use slope::{Record, Shape, Slopes, present};
+use slope::{Base, Record, Shape, Slopes, present};
 use span::Span;
 
 // A function of one line. `exact` is the function, `image` its span of values, and `bend` its spans E, G, K for U and U0. Its one
@@ -31,32 +31,31 @@ pub trait Curve<K: NumberKind>: Copy {
 }
 
 // A = G × Au; B = E × Bu; C = G × Cu + (K × Au) × Bu
-fn lift_slopes<K: NumberKind>(flat: Record<K>, f: &Shape<K>, p: &Record<K>) -> Record<K>
-    requires { flat.slopes ≡ None }
-    ensures { result ≡ rec flat.u flat.u0 (curves.lift_slopes K.NumberKind.model f.now p.now.slopes) }
+fn lift_slopes<K: NumberKind>(base: Base<K>, f: &Shape<K>, p: &Record<K>) -> Record<K>
+    ensures { result ≡ rec base.u base.u0 (curves.lift_slopes K.NumberKind.model f.now p.now.slopes) }
 {
     let Some(s) = &p.slopes else {
-        return flat;
+        return base.flat();
     };
     let Some(a) = f.g.product(s.a) else {
-        return flat;
+        return base.flat();
     };
     let Some(b) = f.e.product(s.b) else {
-        return flat;
+        return base.flat();
     };
     let Some(c1) = f.g.product(s.c) else {
-        return flat;
+        return base.flat();
     };
     let Some(c2) = f.k.product(s.a) else {
-        return flat;
+        return base.flat();
     };
     let Some(c3) = c2.product(s.b) else {
-        return flat;
+        return base.flat();
     };
     let Some(c) = c1.sum(c3) else {
-        return flat;
+        return base.flat();
     };
-    flat.sloped(Slopes { a, b, c })
+    base.sloped(Slopes { a, b, c })
 }
 
 // The record of a curve's value.
@@ -70,9 +69,9 @@ pub fn lift<K: NumberKind, C: Curve<K>>(
 {
     let u = present(curve.values(p.u), place)?;
     let u0 = present(curve.values(p.u0), place)?;
-    let flat = Record::flat(u, u0);
+    let base = Base { u, u0 };
     let Some(f) = curve.shape(p.u, p.u0) else {
-        return Ok(flat);
+        return Ok(base.flat());
     };
-    Ok(lift_slopes(flat, &f, p))
+    Ok(lift_slopes(base, &f, p))
 }

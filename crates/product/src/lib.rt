@@ -1,7 +1,7 @@
 // The product of two records, by a chain of `let .. else`, as this project has its slope rules.
 #![tactic(auto)]
 
-ghost use Rattle.std.specs.Prelude.{◌≡◌, None};
+ghost use Rattle.std.specs.Prelude.{◌≡◌};
 ghost use Rattle.slope.specs.Rules.{given, rec};
 ghost use Rattle.exact.specs.Fraction.{◌*F◌};
 ghost use Rattle.slope.specs.Rules as rules;
@@ -10,53 +10,52 @@ ghost use Rattle.span.specs.Spans as spans;
 
 use fault::Fault;
 use kind::NumberKind;
-use slope::{Record, Slopes, present};
+use slope::{Base, Record, Slopes, present};
 
 // A = Au × V0 + U × Av; B = Bu × V0 + U0 × Bv; C = Cu × V0 + U × Cv + Au × Bv
-fn product_slopes<K: NumberKind>(flat: Record<K>, p: &Record<K>, q: &Record<K>) -> Record<K>
-    requires { flat.slopes ≡ None }
-    ensures { result ≡ rec flat.u flat.u0 (rules.product_slopes K.NumberKind.model p.now q.now) }
+fn product_slopes<K: NumberKind>(base: Base<K>, p: &Record<K>, q: &Record<K>) -> Record<K>
+    ensures { result ≡ rec base.u base.u0 (rules.product_slopes K.NumberKind.model p.now q.now) }
 {
     let Some(s) = &p.slopes else {
-        return flat;
+        return base.flat();
     };
     let Some(t) = &q.slopes else {
-        return flat;
+        return base.flat();
     };
     let Some(a1) = s.a.product(q.u0) else {
-        return flat;
+        return base.flat();
     };
     let Some(a2) = p.u.product(t.a) else {
-        return flat;
+        return base.flat();
     };
     let Some(a) = a1.sum(a2) else {
-        return flat;
+        return base.flat();
     };
     let Some(b1) = s.b.product(q.u0) else {
-        return flat;
+        return base.flat();
     };
     let Some(b2) = p.u0.product(t.b) else {
-        return flat;
+        return base.flat();
     };
     let Some(b) = b1.sum(b2) else {
-        return flat;
+        return base.flat();
     };
     let Some(c1) = s.c.product(q.u0) else {
-        return flat;
+        return base.flat();
     };
     let Some(c2) = p.u.product(t.c) else {
-        return flat;
+        return base.flat();
     };
     let Some(c12) = c1.sum(c2) else {
-        return flat;
+        return base.flat();
     };
     let Some(c3) = s.a.product(t.b) else {
-        return flat;
+        return base.flat();
     };
     let Some(c) = c12.sum(c3) else {
-        return flat;
+        return base.flat();
     };
-    flat.sloped(Slopes { a, b, c })
+    base.sloped(Slopes { a, b, c })
 }
 
 // The record of a product.
@@ -70,5 +69,5 @@ pub fn product<K: NumberKind>(
 {
     let u = present(p.u.product(q.u), place)?;
     let u0 = present(p.u0.product(q.u0), place)?;
-    Ok(product_slopes(Record::flat(u, u0), p, q))
+    Ok(product_slopes(Base { u, u0 }, p, q))
 }

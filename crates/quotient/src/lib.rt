@@ -1,7 +1,7 @@
 // The quotient of two records, by a chain of `let .. else`, as this project has its slope rules.
 #![tactic(auto)]
 
-ghost use Rattle.std.specs.Prelude.{◌≡◌, None};
+ghost use Rattle.std.specs.Prelude.{◌≡◌};
 ghost use Rattle.slope.specs.Rules.{divided, rec};
 ghost use Rattle.slope.specs.Rules as rules;
 ghost use Rattle.slope.specs.Truth.{Divided};
@@ -9,53 +9,52 @@ ghost use Rattle.span.specs.Spans as spans;
 
 use fault::{Cause, Fault};
 use kind::NumberKind;
-use slope::{Record, Slopes, present};
+use slope::{Base, Record, Slopes, present};
 
 // W0 = U0 / V0; A = (Au − W0 × Av) / V; B = (Bu − W0 × Bv) / V0; C = (Cu − W0 × Cv − B × Av) / V
-fn quotient_slopes<K: NumberKind>(flat: Record<K>, p: &Record<K>, q: &Record<K>) -> Record<K>
-    requires { flat.slopes ≡ None }
-    ensures { result ≡ rec flat.u flat.u0 (rules.quotient_slopes K.NumberKind.model p.now q.now flat.u0) }
+fn quotient_slopes<K: NumberKind>(base: Base<K>, p: &Record<K>, q: &Record<K>) -> Record<K>
+    ensures { result ≡ rec base.u base.u0 (rules.quotient_slopes K.NumberKind.model p.now q.now base.u0) }
 {
     let Some(s) = &p.slopes else {
-        return flat;
+        return base.flat();
     };
     let Some(t) = &q.slopes else {
-        return flat;
+        return base.flat();
     };
-    let Some(a1) = flat.u0.product(t.a) else {
-        return flat;
+    let Some(a1) = base.u0.product(t.a) else {
+        return base.flat();
     };
     let Some(a2) = s.a.difference(a1) else {
-        return flat;
+        return base.flat();
     };
     let Some(a) = a2.quotient(q.u) else {
-        return flat;
+        return base.flat();
     };
-    let Some(b1) = flat.u0.product(t.b) else {
-        return flat;
+    let Some(b1) = base.u0.product(t.b) else {
+        return base.flat();
     };
     let Some(b2) = s.b.difference(b1) else {
-        return flat;
+        return base.flat();
     };
     let Some(b) = b2.quotient(q.u0) else {
-        return flat;
+        return base.flat();
     };
-    let Some(c1) = flat.u0.product(t.c) else {
-        return flat;
+    let Some(c1) = base.u0.product(t.c) else {
+        return base.flat();
     };
     let Some(c2) = s.c.difference(c1) else {
-        return flat;
+        return base.flat();
     };
     let Some(c3) = b.product(t.a) else {
-        return flat;
+        return base.flat();
     };
     let Some(c4) = c2.difference(c3) else {
-        return flat;
+        return base.flat();
     };
     let Some(c) = c4.quotient(q.u) else {
-        return flat;
+        return base.flat();
     };
-    flat.sloped(Slopes { a, b, c })
+    base.sloped(Slopes { a, b, c })
 }
 
 // The record of a quotient. Refused first where the divisor's span over the box holds 0.
@@ -72,5 +71,5 @@ pub fn quotient<K: NumberKind>(
     }
     let u = present(p.u.quotient(q.u), place)?;
     let u0 = present(p.u0.quotient(q.u0), place)?;
-    Ok(quotient_slopes(Record::flat(u, u0), p, q))
+    Ok(quotient_slopes(Base { u, u0 }, p, q))
 }

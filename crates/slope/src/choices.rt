@@ -1,26 +1,25 @@
 // The greater, the lesser and the branch: one record as it stands where the spans decide, else both joined.
-ghost use Rattle.std.specs.Prelude.{◌≡◌, None};
+ghost use Rattle.std.specs.Prelude.{◌≡◌};
 ghost use Rattle.slope.specs.Rules.{rec};
 ghost use Rattle.exact.specs.Fraction.{max_F, min_F};
 ghost use Rattle.slope.specs.Rules as rules;
 ghost use Rattle.slope.specs.Truth.{Chosen, Branched};
 ghost use Rattle.span.specs.Spans.{hull};
 
-use crate::record::{Record, Slopes};
+use crate::record::{Base, Record, Slopes};
 use kind::NumberKind;
 use span::Span;
 
-fn joined<K: NumberKind>(flat: Record<K>, p: &Record<K>, q: &Record<K>) -> Record<K>
-    requires { flat.slopes ≡ None }
-    ensures { result ≡ rec flat.u flat.u0 (rules.hulls K.NumberKind.model p.now q.now) }
+fn joined<K: NumberKind>(base: Base<K>, p: &Record<K>, q: &Record<K>) -> Record<K>
+    ensures { result ≡ rec base.u base.u0 (rules.hulls K.NumberKind.model p.now q.now) }
 {
     let Some(s) = &p.slopes else {
-        return flat;
+        return base.flat();
     };
     let Some(t) = &q.slopes else {
-        return flat;
+        return base.flat();
     };
-    flat.sloped(Slopes {
+    base.sloped(Slopes {
         a: s.a.hull(t.a),
         b: s.b.hull(t.b),
         c: s.c.hull(t.c),
@@ -37,8 +36,11 @@ pub fn greater<K: NumberKind>(p: &Record<K>, q: &Record<K>) -> Record<K>
     } else if q.u.clears(p.u) {
         *q
     } else {
-        let flat = Record::flat(p.u.greater(q.u), p.u0.greater(q.u0));
-        joined(flat, p, q)
+        let base = Base {
+            u: p.u.greater(q.u),
+            u0: p.u0.greater(q.u0),
+        };
+        joined(base, p, q)
     }
 }
 
@@ -52,8 +54,11 @@ pub fn lesser<K: NumberKind>(p: &Record<K>, q: &Record<K>) -> Record<K>
     } else if p.u.clears(q.u) {
         *q
     } else {
-        let flat = Record::flat(p.u.lesser(q.u), p.u0.lesser(q.u0));
-        joined(flat, p, q)
+        let base = Base {
+            u: p.u.lesser(q.u),
+            u0: p.u0.lesser(q.u0),
+        };
+        joined(base, p, q)
     }
 }
 

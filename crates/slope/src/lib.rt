@@ -8,4 +8,4 @@ mod record;
 
 pub use choices::{branch, greater, lesser};
 pub use parts::{difference, still, sum, swept};
-pub use record::{Record, Shape, Slopes, present};
+pub use record::{Base, Record, Shape, Slopes, present};

@@ -1,13 +1,13 @@
 // Channels, constants, sums and differences. (Two records and the line's number are what every rule is given: a struct of the
 // three would be taken apart again in each.)
-ghost use Rattle.std.specs.Prelude.{◌≡◌, None};
+ghost use Rattle.std.specs.Prelude.{◌≡◌};
 ghost use Rattle.slope.specs.Rules.{given, rec, three};
 ghost use Rattle.exact.specs.Fraction.{◌+F◌, ◌-F◌};
 ghost use Rattle.slope.specs.Rules as rules;
 ghost use Rattle.slope.specs.Truth.{Kept};
 ghost use Rattle.span.specs.Spans as spans;
 
-use crate::record::{Record, Slopes, present};
+use crate::record::{Base, Record, Slopes, present};
 use fault::Fault;
 use kind::NumberKind;
 use span::Span;
@@ -17,7 +17,7 @@ fn straight<K: NumberKind>(u: Span<K>, u0: Span<K>, s: K) -> Record<K>
     ensures { result ≡ rec u u0 (three (spans.point K.NumberKind.model s) (spans.point K.NumberKind.model s) (spans.zero_span K.NumberKind.model)) }
 {
     let s = Span::point(s);
-    Record::flat(u, u0).sloped(Slopes {
+    Base { u, u0 }.sloped(Slopes {
         a: s,
         b: s,
         c: Span::point(K::zero()),
@@ -38,26 +38,25 @@ pub fn still<K: NumberKind>(x: Span<K>) -> Record<K>
     straight(x, x, K::zero())
 }
 
-fn sum_slopes<K: NumberKind>(flat: Record<K>, p: &Record<K>, q: &Record<K>) -> Record<K>
-    requires { flat.slopes ≡ None }
-    ensures { result ≡ rec flat.u flat.u0 (rules.part_slopes (spans.sum K.NumberKind.model) p.now q.now) }
+fn sum_slopes<K: NumberKind>(base: Base<K>, p: &Record<K>, q: &Record<K>) -> Record<K>
+    ensures { result ≡ rec base.u base.u0 (rules.part_slopes (spans.sum K.NumberKind.model) p.now q.now) }
 {
     let Some(s) = &p.slopes else {
-        return flat;
+        return base.flat();
     };
     let Some(t) = &q.slopes else {
-        return flat;
+        return base.flat();
     };
     let Some(a) = s.a.sum(t.a) else {
-        return flat;
+        return base.flat();
     };
     let Some(b) = s.b.sum(t.b) else {
-        return flat;
+        return base.flat();
     };
     let Some(c) = s.c.sum(t.c) else {
-        return flat;
+        return base.flat();
     };
-    flat.sloped(Slopes { a, b, c })
+    base.sloped(Slopes { a, b, c })
 }
 
 pub fn sum<K: NumberKind>(p: &Record<K>, q: &Record<K>, place: usize) -> Result<Record<K>, Fault>
@@ -66,7 +65,7 @@ pub fn sum<K: NumberKind>(p: &Record<K>, q: &Record<K>, place: usize) -> Result<
 {
     let u = present(p.u.sum(q.u), place)?;
     let u0 = present(p.u0.sum(q.u0), place)?;
-    Ok(sum_slopes(Record::flat(u, u0), p, q))
+    Ok(sum_slopes(Base { u, u0 }, p, q))
 }
 
 // The negative of a record, part by part.

@@ -30,11 +30,19 @@ pub struct Shape<K: NumberKind> {
     pub k: Span<K>,
 }
 
-impl<K: NumberKind> Record<K> {
-    // A record with no slopes.
-    pub fn flat(u: Span<K>, u0: Span<K>) -> Record<K>
-        ensures { result ≡ rec u u0 None }
+// A record's U and U0, which it has with slopes or with none.
+#[derive(Clone, Copy, PartialEq, Eq, Debug)]
+pub struct Base<K: NumberKind> {
+    pub u: Span<K>,
+    pub u0: Span<K>,
+}
+
+impl<K: NumberKind> Base<K> {
+    // The record with no slopes.
+    pub fn flat(self) -> Record<K>
+        ensures { result ≡ rec self.u self.u0 None }
     {
+        let Base { u, u0 } = self;
         Record {
             u,
             u0,
@@ -42,14 +50,25 @@ impl<K: NumberKind> Record<K> {
         }
     }
 
-    // The record with these slopes in place of its own.
+    // The record with these slopes.
     pub fn sloped(self, slopes: Slopes<K>) -> Record<K>
         ensures { result ≡ rec self.u self.u0 (Some slopes) }
     {
+        let Base { u, u0 } = self;
         Record {
+            u,
+            u0,
             slopes: Some(slopes),
-            ..self
         }
+    }
+}
+
+impl<K: NumberKind> Record<K> {
+    // A record with no slopes.
+    pub fn flat(u: Span<K>, u0: Span<K>) -> Record<K>
+        ensures { result ≡ rec u u0 None }
+    {
+        Base { u, u0 }.flat()
     }
 }
 
