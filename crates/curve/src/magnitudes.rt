@@ -59,26 +59,6 @@ fn turned<K: NumberKind>(o: Option<Shape<K>>) -> Option<Shape<K>>
     })
 }
 
-fn magnitude_shape<K: NumberKind>(u: Span<K>, u0: Span<K>) -> Option<Shape<K>>
-    ensures { result ≡ curves.magnitude_shape K.NumberKind.model u u0 }
-{
-    let zero = K::zero();
-    let one = K::one();
-    if u.upper.at_most(zero) {
-        return Some(straight(one.negated(), one.negated()));
-    }
-    if zero.at_most(u.lower) {
-        return Some(straight(one, one));
-    }
-    if zero.at_most(u0.upper) {
-        if u0.lower.at_most(zero) {
-            return Some(straight(one.negated(), one));
-        }
-        return turned(left_row(u.lower.negated(), u0.lower.negated()));
-    }
-    left_row(u.upper, u0.upper)
-}
-
 impl<K: NumberKind> Curve<K> for Magnitude {
     ghost exact = { magnitude_F };
 
@@ -97,6 +77,20 @@ impl<K: NumberKind> Curve<K> for Magnitude {
     fn shape(self, u: Span<K>, u0: Span<K>) -> Option<Shape<K>>
         ensures { result ≡ curves.magnitude_shape K.NumberKind.model u u0 }
     {
-        magnitude_shape(u, u0)
+        let zero = K::zero();
+        let one = K::one();
+        if u.upper.at_most(zero) {
+            return Some(straight(one.negated(), one.negated()));
+        }
+        if zero.at_most(u.lower) {
+            return Some(straight(one, one));
+        }
+        if zero.at_most(u0.upper) {
+            if u0.lower.at_most(zero) {
+                return Some(straight(one.negated(), one));
+            }
+            return turned(left_row(u.lower.negated(), u0.lower.negated()));
+        }
+        left_row(u.upper, u0.upper)
     }
 }

@@ -13,16 +13,6 @@ use span::Span;
 #[derive(Clone, Copy)]
 pub struct Square;
 
-fn square_shape<K: NumberKind>(u: Span<K>, u0: Span<K>) -> Option<Shape<K>>
-    ensures { result ≡ curves.square_shape K.NumberKind.model u u0 }
-{
-    Some(Shape {
-        e: u0.sum(u0)?,
-        g: u.sum(u0)?,
-        k: Span::point(K::one()),
-    })
-}
-
 impl<K: NumberKind> Curve<K> for Square {
     ghost exact = { square_F };
 
@@ -41,6 +31,10 @@ impl<K: NumberKind> Curve<K> for Square {
     fn shape(self, u: Span<K>, u0: Span<K>) -> Option<Shape<K>>
         ensures { result ≡ curves.square_shape K.NumberKind.model u u0 }
     {
-        square_shape(u, u0)
+        Some(Shape {
+            e: u0.sum(u0)?,
+            g: u.sum(u0)?,
+            k: Span::point(K::one()),
+        })
     }
 }

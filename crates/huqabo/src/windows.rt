@@ -1,6 +1,7 @@
 // The windows of a station: the last line of a formula is reported for each.
 use crate::stop::{Stop, slipped, unread};
-use desk::Station;
+use desk::{Refused, Station};
+use report::Report;
 use script::{KindName, Problem, append_bytes, counts_of};
 use std::io::{BufRead, BufReader};
 use std::{fmt, fs};
@@ -33,14 +34,11 @@ struct Tally {
 }
 
 impl Tally {
-    // Counts a window in, which is reported or refused.
-    fn count(&mut self, reported: bool) {
-        let tally = if reported {
-            &mut self.reported
-        } else {
-            &mut self.refused
-        };
-        *tally = tally.saturating_add(1);
+    fn count(&mut self, outcome: Result<Report, Refused>) {
+        match outcome {
+            Ok(_) => self.reported = self.reported.saturating_add(1),
+            Err(_) => self.refused = self.refused.saturating_add(1),
+        }
     }
 }
 
@@ -55,25 +53,21 @@ impl fmt::Display for Tally {
     }
 }
 
-// Opens the window of a line and prints what comes of it. Answers whether that is a report.
+// Opens the window of a line, prints what comes of it and answers that.
 fn step(
     rt: &HostRuntime,
     station: &mut Station,
     formula: &[u8],
     number: u64,
     text: &str,
-) -> Result<bool, Stop> {
+) -> Result<Result<Report, Refused>, Stop> {
     let counts = counts_of(rt.alloc(), text).map_err(|slip| slipped(rt, number, slip))?;
-    match station.window(formula, counts.lower.as_slice(), counts.upper.as_slice()) {
-        Ok(report) => {
-            println!(rt; "window {number}: {report}")?;
-            Ok(true)
-        }
-        Err(refused) => {
-            println!(rt; "window {number}: {refused}")?;
-            Ok(false)
-        }
+    let outcome = station.window(formula, counts.lower.as_slice(), counts.upper.as_slice());
+    match outcome {
+        Ok(report) => println!(rt; "window {number}: {report}")?,
+        Err(refused) => println!(rt; "window {number}: {refused}")?,
     }
+    Ok(outcome)
 }
 
 pub fn windows(
@@ -91,8 +85,7 @@ pub fn windows(
     };
     let lines = BufReader::new(rt.alloc(), rt.stdin())?.lines(rt.alloc());
     for (number, text) in (1u64..).zip(lines) {
-        let reported = step(rt, &mut station, formula.as_slice(), number, text?.as_str())?;
-        tally.count(reported);
+        tally.count(step(rt, &mut station, formula.as_slice(), number, text?.as_str())?);
     }
     println!(rt; "{tally}")?;
     Ok(())

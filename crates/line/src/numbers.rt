@@ -1,12 +1,12 @@
-// The numbers that a line is written as. An operation goes by its number in the bytes, since any u32 is taken where an enum would
-// refuse some.
+// The numbers that a line is written as. An operation goes by its number in the bytes: an enum of the eleven beside `Line` would say
+// their names again, and refuse numbers that these functions take.
 ghost use Rattle.std.specs.Prelude.{◌≡◌, ◌<◌, ◌^◌, nat_lt, unwrap_or};
 ghost use Rattle.line.specs.Operations.{folded, unfolded};
 ghost use Rattle.line.specs.Operations as lines;
 
 use crate::line::Line;
 
-// How many operands an operation has; those above 10 are none.
+// How many operands an operation has; numbers above 10 are no operations, and get 3.
 pub fn arity(operation: u32) -> u32
     ensures { result ≡ lines.arity operation }
 {

@@ -23,7 +23,8 @@ impl fmt::Display for Decimal {
         if rest > 0 {
             write!(f, ".")?;
         }
-        // Each digit doubles the power of two that divides the rest. At 2^24 nothing is left; 0 has 64 trailing zeros.
+        // Each digit doubles the power of two that divides the rest. At 2^24 nothing is left; 0 has 64 trailing zeros. (An iterator over
+        // the digits would have to carry the rest by hand too.)
         for _ in rest.trailing_zeros()..24 {
             let digit = rest * 10 / ONE;
             write!(f, "{digit}")?;

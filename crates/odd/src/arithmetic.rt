@@ -9,7 +9,7 @@ ghost use Rattle.odd.specs.Signs.{sign_rules};
 use crate::sign::Sign;
 use kind::NumberKind;
 
-// This and the next have contracts, which a `From` and a `TryFrom` of all callers need not have.
+// (This and the next are private; a `From` and a `TryFrom` with their contracts would be longer, and public.)
 fn whole(s: Sign) -> i64
     ensures { result ≡ signs.whole s }
 {
@@ -87,6 +87,7 @@ fn rounded(n: i64) -> Option<Sign>
     marked(n.div_euclid(65536))
 }
 
+// Each operation is a line, as in the other kinds; one function serves both directions.
 impl NumberKind for Sign {
     ghost model = { sign_model };
 

@@ -72,7 +72,7 @@ fn two<K: NumberKind>(
     Ok((p, q))
 }
 
-// Apart, since each of its many exits would have to name the theorem of `record_of` again.
+// (Apart from `record_of`: in one, with the theorem named by `using`, the check does not find it at the many exits.)
 fn record_steps<K: NumberKind>(
     b: &ChannelBox,
     earlier: &[Record<K>],

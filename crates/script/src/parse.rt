@@ -94,9 +94,6 @@ fn call<'a>(heap: Global, word: &'a str, words: &mut Words<'a>) -> Result<Call, 
 // The call of a line; empty lines and lines that begin with # have none.
 pub fn call_of(heap: Global, text: &str) -> Result<Option<Call>, Slip<'_>> {
     let mut words = Words::new(text);
-    match words.next() {
-        None => Ok(None),
-        Some(word) if word.starts_with("#") => Ok(None),
-        Some(word) => Ok(Some(call(heap, word, &mut words)?)),
-    }
+    let word = words.next().filter(|word| !word.starts_with("#"));
+    word.map(|word| call(heap, word, &mut words)).transpose()
 }

@@ -4,7 +4,7 @@ ghost use Rattle.sliding.specs.Cut.{Scale, Settles, shifted};
 
 pub const LARGEST: i32 = 16_777_215;
 
-// A mantissa of at most 24 bits and its scale.
+// A mantissa of at most 24 bits and its scale. (No mark yet: the scale may be beyond 32.)
 #[derive(Clone, Copy)]
 pub struct Settled {
     pub mantissa: i32,

@@ -62,7 +62,7 @@ pub fn lesser<K: NumberKind>(p: &Record<K>, q: &Record<K>) -> Record<K>
     }
 }
 
-// The span of q's or r's values, or of both, by the test on s.
+// The span of q's or r's values, or of both, by the test on s. (`branch` asks the same of S, and chooses records.)
 fn chosen<K: NumberKind>(s: Span<K>, q: Span<K>, r: Span<K>) -> Span<K>
     ensures { result ≡ rules.chosen K.NumberKind.model s q r (hull K.NumberKind.model q r) }
 {

@@ -64,7 +64,7 @@ impl<K: NumberKind> Base<K> {
 }
 
 impl<K: NumberKind> Record<K> {
-    // A record with no slopes.
+    // A record with no slopes, of two spans that are no base.
     pub fn flat(u: Span<K>, u0: Span<K>) -> Record<K>
         ensures { result ≡ rec u u0 None }
     {

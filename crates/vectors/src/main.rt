@@ -21,7 +21,7 @@ fn told(answer: &str) -> &str {
     answer.split_once(" (").map_or(answer, |(told, _)| told)
 }
 
-// Whether an answer is the one expected; if not, prints both.
+// Whether an answer is the one expected; if not, prints both. (No ==: what differs is printed where it is found.)
 fn same(rt: &HostRuntime, given: &str, wanted: &str) -> anyhow::Result<bool> {
     if told(given) == wanted {
         return Ok(true);

@@ -29,7 +29,7 @@ impl Sheet {
         self.held
     }
 
-    // Opens the sheet over a box, given by its four parts as callers have them, and empties it. A refusal leaves the sheet as it was.
+    // Opens the sheet over a box, given by its four parts as this project has it, and empties it. A refusal leaves the sheet as it was.
     pub fn open(
         &mut self,
         lower: &[i64],
