@@ -4,14 +4,16 @@ ghost use Rattle.span.specs.Spans as spans;
 ghost use Rattle.span.specs.Laws.{ProductLaw};
 
 use crate::ends::{from_zero, to_zero};
-use crate::span::{Span, ends};
+use crate::span::Span;
 use kind::NumberKind;
 
-// a × b rounded down, to c × d rounded up
+// a × b rounded down, to c × d rounded up. (Two steps, and not `ends`: most of the time goes here, and it took a fifth longer.)
 pub fn corners<K: NumberKind>(a: K, b: K, c: K, d: K) -> Option<Span<K>>
     ensures { result ≡ spans.corners K.NumberKind.model a b c d }
 {
-    ends(a.product_below(b), c.product_above(d))
+    let lower = a.product_below(b)?;
+    let upper = c.product_above(d)?;
+    Some(Span { lower, upper })
 }
 
 // s from 0 up. (The mirror image below has other ends and other tests; by negated spans it would be no shorter, and negate
