@@ -14,7 +14,7 @@ module _ (s : Sheet) where
   held_is = length-take-le s.held s.lines (let f = s.few in let w = s.whole in omega arith)
 
 -- enough lines are lent
-pub lent_enough : {R : Type 0} (w : List R) → Ok tt ≡ enough w → 64 ≤ length w
+pub lent_enough : {R : Type 0} (w : List R) → Ok tt ≡ enough (length w) → 64 ≤ length w
 lent_enough w e = go (nat_lt (length w) 64) refl e
   where
     go : (b : Bool) → nat_lt (length w) 64 ≡ b → ◌≡◌ {A = Result (Unit {0}) Fault} (Ok tt) (cond b (refused Lines 0) (Ok tt)) → 64 ≤ length w

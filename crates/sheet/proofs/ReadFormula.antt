@@ -12,7 +12,7 @@ use Rattle.sheet.specs.Reading.{Outcome, ends, read_formula, read_onto}
 -- reading onto a sheet
 module _ {K : Type 0} (m : Model K) (s : Contents) (w : List (Record K)) (bytes : List ℕ) where
   abbrev pub onto : Outcome K
-  onto = read_onto m s w bytes
+  onto = read_onto m s (length w) bytes
 
   pub not_empty : 64 ≤ length w → 0 < length s.lines → onto ≡ ends (refused NotEmpty 0) [] []
   not_empty h k = rw (le-ltb (length w) 64 h, lt-ltb 0 (length s.lines) k)

@@ -45,9 +45,10 @@ module _ {K : Type 0} where
     abbrev pub read_formula : Box → List ℕ → Outcome K
     read_formula b bytes = goes_on (count_at bytes) [] [] (λ p. read_lines b p.0 bytes p.1.at [] [])
 
-    abbrev pub read_onto : Contents → List (Record K) → List ℕ → Outcome K
-    read_onto s w bytes =
-        cond (nat_lt (length w) 64) (ends (refused Lines 0) [] [])
+    -- so many working lines are lent
+    abbrev pub read_onto : Contents → ℕ → List ℕ → Outcome K
+    read_onto s lent bytes =
+        cond (nat_lt lent 64) (ends (refused Lines 0) [] [])
         (cond (nat_lt 0 (length s.lines)) (ends (refused NotEmpty 0) [] [])
         (read_formula s.over bytes))
 
@@ -57,6 +58,11 @@ filled s (Ok _) ls = record { over = s.over; lines = ls }
 filled s (Err e) ls = s
 
 module _ {K : Type 0} (m : Model K) where
+  pub record Read (bytes : List ℕ) (s : Contents) (w : List (Record K)) (r : Result (Unit {0}) Fault) (s' : Contents) (w' : List (Record K)) : Type 0 where
+    pub answer : r ≡ (read_onto m s (length w) bytes).answer
+    pub sheet : s' ≡ filled s r (read_onto m s (length w) bytes).lines
+    pub records : w' ≡ overlaid (read_onto m s (length w) bytes).records w
+
   -- both round trips through an empty sheet
   pub record ReadTrips : Type 0 where
     -- what is written of lines that have records over a box is read as these lines, with these records, over that box

@@ -1,7 +1,7 @@
 // Adding one line.
-ghost use Rattle.std.specs.Prelude.{◌≡◌, ◌<◌, length};
+ghost use Rattle.std.specs.Prelude.{◌≡◌, ◌<◌, length, take};
 ghost use Rattle.sheet.specs.Contents.{Contents, contents};
-ghost use Rattle.sheet.specs.Calls.{grown, numbered, stored};
+ghost use Rattle.sheet.specs.Calls.{Added, grown, numbered, stored};
 ghost use Rattle.sheet.specs.Calls as calls;
 
 use crate::sheet::Sheet;
@@ -15,7 +15,7 @@ use slope::Record;
 impl Sheet {
     // The record of one more line, or why it is refused.
     fn next<K: NumberKind>(&self, working: &[Record<K>], line: Line) -> Result<Record<K>, Fault>
-        ensures { result ≡ calls.next K.NumberKind.model (contents self.now) working.now line }
+        ensures { result ≡ calls.next K.NumberKind.model (contents self.now) (length working.now) (take (length (contents self.now).lines) working.now) line }
     {
         enough(working)?;
         if self.held == 64 {
@@ -32,20 +32,31 @@ impl Sheet {
         self.held += 1;
     }
 
-    // Appends a line, with its record in the working line of its number, which it answers. A refusal leaves everything as it was.
-    pub fn add<K: NumberKind>(
+    // Its number is answered. (Apart from `add`, which promises less on working lines that lack a record.)
+    fn add_line<K: NumberKind>(
         &mut self,
         working: &mut [Record<K>],
         line: Line,
     ) -> Result<usize, Fault>
-        ensures answer { result ≡ numbered (length (contents self.old).lines) (calls.next K.NumberKind.model (contents self.old) working.old line) }
-        ensures sheet { contents self.new ≡ grown (contents self.old) line (calls.next K.NumberKind.model (contents self.old) working.old line) }
-        ensures records { working.new ≡ stored working.old (length (contents self.old).lines) (calls.next K.NumberKind.model (contents self.old) working.old line) }
+        ensures answer { result ≡ numbered (length (contents self.old).lines) (calls.next K.NumberKind.model (contents self.old) (length working.old) (take (length (contents self.old).lines) working.old) line) }
+        ensures sheet { contents self.new ≡ grown (contents self.old) line (calls.next K.NumberKind.model (contents self.old) (length working.old) (take (length (contents self.old).lines) working.old) line) }
+        ensures records { working.new ≡ stored working.old (length (contents self.old).lines) (calls.next K.NumberKind.model (contents self.old) (length working.old) (take (length (contents self.old).lines) working.old) line) }
     {
         let n = self.held;
         let made = self.next(working, line)?;
         keep(working, n, made);
         self.hold(line);
         Ok(n)
+    }
+
+    // Appends a line, with its record in the working line of its number, which it answers. A refusal leaves everything as it was.
+    pub fn add<K: NumberKind>(
+        &mut self,
+        working: &mut [Record<K>],
+        line: Line,
+    ) -> Result<usize, Fault>
+        ensures { Added K.NumberKind.model line (contents self.old) working.old result (contents self.new) working.new }
+    {
+        self.add_line(working, line)
     }
 }

@@ -8,7 +8,7 @@ use slope::Record;
 
 // Fewer than 64 are refused.
 pub(crate) fn enough<K: NumberKind>(working: &[Record<K>]) -> Result<(), Fault>
-    ensures { result ≡ calls.enough working.now }
+    ensures { result ≡ calls.enough (length working.now) }
 {
     if working.len() < 64 {
         return Err(Cause::Lines.at(0));

@@ -1,8 +1,7 @@
 // Blank sheets, and opening a sheet over a box.
 ghost use Rattle.std.specs.Prelude.{◌≡◌, length};
-ghost use Rattle.boxes.specs.Boxes.{opened};
 ghost use Rattle.sheet.specs.Contents.{contents};
-ghost use Rattle.sheet.specs.Calls.{accepts, reopened};
+ghost use Rattle.sheet.specs.Calls.{Opened};
 ghost use Rattle.sheet.specs.Contents as sheets;
 
 use crate::sheet::Sheet;
@@ -37,8 +36,7 @@ impl Sheet {
         swept: usize,
         centre: i64,
     ) -> Result<(), Fault>
-        ensures answer { result ≡ accepts (opened lower.now upper.now swept centre) }
-        ensures left { contents self.new ≡ reopened (contents self.old) (opened lower.now upper.now swept centre) }
+        ensures { Opened lower.now upper.now swept centre (contents self.old) result (contents self.new) }
     {
         let over = ChannelBox::opened(lower, upper, swept, centre)?;
         self.over = over;

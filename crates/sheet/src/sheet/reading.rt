@@ -2,7 +2,7 @@
 ghost use Rattle.std.specs.Prelude.{◌≡◌, ◌≤◌, true, [], length, take, is_ok};
 ghost use Rattle.boxes.specs.Stored.{box_of};
 ghost use Rattle.sheet.specs.Contents.{contents};
-ghost use Rattle.sheet.specs.Reading.{ReadTrips, filled, overlaid, read_formula, read_lines, read_onto};
+ghost use Rattle.sheet.specs.Reading.{Read, ReadTrips, filled, overlaid, read_formula, read_lines, read_onto};
 
 use crate::sheet::Sheet;
 use crate::sheet::lending::{enough, keep};
@@ -63,9 +63,7 @@ impl Sheet {
         working: &mut [Record<K>],
         bytes: &[u8],
     ) -> Result<(), Fault>
-        ensures answer { result ≡ (read_onto K.NumberKind.model (contents self.old) working.old bytes.now).answer }
-        ensures sheet { contents self.new ≡ filled (contents self.old) result (read_onto K.NumberKind.model (contents self.old) working.old bytes.now).lines }
-        ensures records { working.new ≡ overlaid (read_onto K.NumberKind.model (contents self.old) working.old bytes.now).records working.old }
+        ensures call { Read K.NumberKind.model bytes.now (contents self.old) working.old result (contents self.new) working.new }
         ensures trips { ReadTrips K.NumberKind.model }
     {
         enough(working)?;

@@ -1,6 +1,7 @@
 // Reports of held lines.
-ghost use Rattle.std.specs.Prelude.{◌≡◌};
+ghost use Rattle.std.specs.Prelude.{◌≡◌, length, take};
 ghost use Rattle.sheet.specs.Contents.{contents};
+ghost use Rattle.sheet.specs.Calls.{Reported};
 ghost use Rattle.sheet.specs.Calls as calls;
 
 use crate::sheet::Sheet;
@@ -11,14 +12,21 @@ use report::{Report, report_of};
 use slope::Record;
 
 impl Sheet {
-    // The middle and the margin of a held line, by its working line.
-    pub fn report<K: NumberKind>(&self, working: &[Record<K>], line: usize) -> Result<Report, Fault>
-        ensures { result ≡ calls.report K.NumberKind.model (contents self.now) working.now line }
+    // (Apart from `report`, which promises less on working lines that lack a record.)
+    fn report_line<K: NumberKind>(&self, working: &[Record<K>], line: usize) -> Result<Report, Fault>
+        ensures { result ≡ calls.report K.NumberKind.model (contents self.now) (length working.now) (take (length (contents self.now).lines) working.now) line }
     {
         enough(working)?;
         if line >= self.held {
             return Err(Cause::NoLine.at(line));
         }
         Ok(report_of(&self.over, &working[line]))
+    }
+
+    // The middle and the margin of a held line, by its working line.
+    pub fn report<K: NumberKind>(&self, working: &[Record<K>], line: usize) -> Result<Report, Fault>
+        ensures { Reported K.NumberKind.model line (contents self.now) working.now result }
+    {
+        self.report_line(working, line)
     }
 }

@@ -1,7 +1,6 @@
 // Striking the last line.
-ghost use Rattle.std.specs.Prelude.{◌≡◌};
 ghost use Rattle.sheet.specs.Contents.{contents};
-ghost use Rattle.sheet.specs.Calls.{shortened, struck};
+ghost use Rattle.sheet.specs.Calls.{Struck};
 
 use crate::sheet::Sheet;
 use fault::{Cause, Fault};
@@ -9,8 +8,7 @@ use fault::{Cause, Fault};
 impl Sheet {
     // Removes the last line.
     pub fn strike(&mut self) -> Result<(), Fault>
-        ensures answer { result ≡ struck (contents self.old) }
-        ensures left { contents self.new ≡ shortened (contents self.old) }
+        ensures { Struck (contents self.old) result (contents self.new) }
     {
         if self.held == 0 {
             return Err(Cause::NoLine.at(0));

@@ -14,7 +14,7 @@ returns-then-self-gt0 g c =
     let s = c.args.self.now in
     let l = held_is s in
     let q = not_empty g.K.NumberKind.model (contents s) c.args.working.now c.args.bytes.now (lent_enough c.args.working.now c.in_ok-enough.ensures) (omega (arith, l, c.if-self-gt0.true)) in
-    record { answer = ap Err c.at.ensures ∙ sym (ap (λ o. o.answer) q); sheet = refl; records = sym (ap (λ o. overlaid o.records c.args.working.now) q); trips = read_trips g.K.NumberKind.model }
+    record { call = record { answer = ap Err c.at.ensures ∙ sym (ap (λ o. o.answer) q); sheet = refl; records = sym (ap (λ o. overlaid o.records c.args.working.now) q) }; trips = read_trips g.K.NumberKind.model }
 
 pub returns : goal.returns
 returns g c =
@@ -22,8 +22,10 @@ returns g c =
     let l = held_is s in
     let q = empty g.K.NumberKind.model (contents s) c.args.working.now c.args.bytes.now (lent_enough c.args.working.now c.in_ok-enough.ensures) (omega (arith, l, c.if-self-gt0.false)) in
     record {
-      answer = c.fill.ensures.answer ∙ sym (ap (λ o. o.answer) q);
-      sheet = c.fill.ensures.sheet ∙ sym (ap (λ o. filled (contents s) c.fill.result o.lines) q);
-      records = c.fill.ensures.records ∙ sym (ap (λ o. overlaid o.records c.args.working.now) q);
+      call = record {
+        answer = c.fill.ensures.answer ∙ sym (ap (λ o. o.answer) q);
+        sheet = c.fill.ensures.sheet ∙ sym (ap (λ o. filled (contents s) c.fill.result o.lines) q);
+        records = c.fill.ensures.records ∙ sym (ap (λ o. overlaid o.records c.args.working.now) q);
+      };
       trips = read_trips g.K.NumberKind.model;
     }

@@ -1,11 +1,12 @@
-use Rattle.std.proofs.Common.{arith}
-use Rattle.sheet.proofs.Held.{held_is, lent_enough}
-use Rattle.sheet.proofs.Reported.{of_held}
+use Rattle.std.proofs.Common.{sym, subst, arith}
+use Rattle.sheet.proofs.Held.{held_is}
+use Rattle.sheet.proofs.Reported.{answered}
+use Rattle.sheet.specs.Calls.{Answered, reportable}
 use Rattle.sheet.specs.Contents.{contents}
 use Rattle.sheet.proofs.sheet.Sheet.report.Goals as goal
 
 pub returns : goal.returns
 returns g c =
     let s = c.args.self.now in
-    let l = held_is s in
-    of_held g.K.NumberKind.model (contents s) c.args.working.now c.args.line (lent_enough c.args.working.now c.in_ok-enough.ensures) c.index-working-line.result (omega (arith, l, c.if-line-self.false)) (omega (arith, l, s.few)) c.index-working-line.is c.report_of.ensures.value
+    let a = answered g.K.NumberKind.model (contents s) c.args.working.now c.args.line (omega (arith, held_is s, s.few)) in
+    record { judged = subst (Answered (reportable (contents s) _ c.args.line)) (sym c.report_line.ensures) a; ruled = λ _. c.report_line.ensures }
