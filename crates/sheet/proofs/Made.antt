@@ -1,9 +1,8 @@
 -- What add makes of a line, case by case.
-use Rattle.std.proofs.Common.{◌≡◌, ℕ, ◌==◌, ◌≤◌, Bool, true, false, cond, nat_lt, List, length, take, Result, refl, subst, arith, length-take-le}
+use Rattle.std.proofs.Common.{◌≡◌, ℕ, ◌==◌, ◌≤◌, Bool, true, false, cond, nat_lt, List, length, take, refl, subst, arith, length-take-le}
 use Rattle.std.proofs.lemmas.Bool.{ltb-false}
 use Rattle.fault.specs.Refusals.{refused}
 use Rattle.fault.specs.declared.fault.Cause.TheVariants.{Full, Lines}
-use Rattle.fault.specs.declared.fault.Fault.{Fault}
 use Rattle.kind.specs.Model.{Model}
 use Rattle.line.specs.declared.line.Line.{Line}
 use Rattle.rule.proofs.Fits.{fit_judges}

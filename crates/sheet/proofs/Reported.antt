@@ -1,7 +1,7 @@
 -- Reporting, case by case.
-use Rattle.std.proofs.Common.{◌≡◌, ℕ, ◌<◌, ◌≤◌, Bool, true, false, cond, nat_lt, List, length, get_or, take, Some, Ok, Option, Result, sym, refl, ap, ◌∙◌, subst, arith, length-take-le, get_or-take}
-use Rattle.std.proofs.lemmas.Option.{slice_get-get_or, slice_get_past}
-use Rattle.std.proofs.lemmas.Bool.{le-ltb, ltb-false, ltb-true}
+use Rattle.std.proofs.Common.{◌≡◌, ℕ, ◌≤◌, Bool, true, false, cond, nat_lt, List, length, take, Ok, Option, Result, sym, refl, subst, arith, length-take-le}
+use Rattle.std.proofs.lemmas.Option.{slice_get_past}
+use Rattle.std.proofs.lemmas.Bool.{ltb-false, ltb-true}
 use Rattle.std.specs.List.{slice_get}
 use Rattle.fault.specs.Refusals.{after, found, refused}
 use Rattle.fault.specs.declared.fault.Cause.TheVariants.{Lines, NoLine}
@@ -21,21 +21,12 @@ module _ {K : Type 0} (m : Model K) (s : Contents) (w : List (Record K)) (line :
   abbrev by_record : Option (Record K) → Result Report Fault
   by_record o = after (found NoLine line o) (λ r. Ok (reported m s.over r))
 
-  pub of_held : 64 ≤ length w → (x : Record K) {a : Report} → line < length s.lines → length s.lines ≤ 64 → x ≡ get_or w line x → a ≡ reported m s.over x → Ok a ≡ report m s (length w) earlier line
-  of_held lent x h few got e = ap Ok e ∙ sym (report_is ∙ ap by_record here)
-    where
-      report_is : report m s (length w) earlier line ≡ by_record (slice_get earlier line)
-      report_is = rw (le-ltb (length w) 64 lent)
-
-      here : slice_get earlier line ≡ Some x
-      here = slice_get-get_or earlier line x (omega (arith, length-take-le (length s.lines) w (omega arith))) ∙ ap Some (get_or-take (length s.lines) w line x h ∙ sym got)
-
   abbrev Found : Result (Unit {0}) Fault → Option (Record K) → Type 0
   Found v o = Answered v (by_record o)
 
   -- it is refused for its number alone
-  pub answered : length s.lines ≤ 64 → Answered (reportable s (length w) line) (report m s (length w) earlier line)
-  answered few = lent (nat_lt (length w) 64) refl
+  pub answered : length s.lines ≤ 64 → {r : Result Report Fault} → r ≡ report m s (length w) earlier line → Answered (reportable s (length w) line) r
+  answered few e = subst (Answered (reportable s (length w) line)) (sym e) (lent (nat_lt (length w) 64) refl)
     where
       held : (b : Bool) → 64 ≤ length w → nat_lt line (length s.lines) ≡ b → Found (cond b (Ok tt) (refused NoLine line)) (slice_get earlier line)
       held true h e = let n = ltb-true line (length s.lines) e in let l = length-take-le (length s.lines) w (omega arith) in let x = nth_some earlier line (omega (arith, l, n)) in subst (Found (Ok tt)) (sym x.1) refl

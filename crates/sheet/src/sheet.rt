@@ -5,6 +5,7 @@ use boxes::ChannelBox;
 use line::Line;
 
 mod adding;
+mod counting;
 mod lending;
 mod opening;
 mod reading;

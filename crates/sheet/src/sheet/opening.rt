@@ -1,5 +1,5 @@
 // Blank sheets, and opening a sheet over a box.
-ghost use Rattle.std.specs.Prelude.{◌≡◌, length};
+ghost use Rattle.std.specs.Prelude.{◌≡◌};
 ghost use Rattle.sheet.specs.Contents.{contents};
 ghost use Rattle.sheet.specs.Calls.{Opened};
 ghost use Rattle.sheet.specs.Contents as sheets;
@@ -19,13 +19,6 @@ impl Sheet {
             lines: [Line::Constant(0); 64],
             held: 0,
         }
-    }
-
-    // How many lines are held.
-    pub fn held(&self) -> usize
-        ensures { result ≡ length (contents self.now).lines }
-    {
-        self.held
     }
 
     // Opens the sheet over a box, given by its four parts as this project has it, and empties it. A refusal leaves the sheet as it was.
