@@ -27,9 +27,13 @@ is_count n = int_le (neg_ℤ (pos 1073741823)) n && int_le n (pos 1073741823)
 abbrev pub counted : ℤ → ℕ → Result ℤ Fault
 counted n place = cond (is_count n) (Ok n) (refused Number place)
 
+-- two counts as a range
+abbrev pub ordered : ℤ → ℤ → ℕ → Result (ℤ × ℤ) Fault
+ordered l u channel = cond (int_le l u) (Ok (l, u)) (refused Order channel)
+
 -- the range of a channel
 abbrev pub range : ℤ → ℤ → ℕ → Result (ℤ × ℤ) Fault
-range l u channel = after (counted l channel) (λ l. after (counted u channel) (λ u. cond (int_le l u) (Ok (l, u)) (refused Order channel)))
+range l u channel = after (counted l channel) (λ l. after (counted u channel) (λ u. ordered l u channel))
 
 -- the ranges of the channels from a number on, in turn
 abbrev pub ranges : ℕ → List ℤ → List ℤ → Result (Unit {0}) Fault
@@ -37,9 +41,13 @@ ranges channel [] us = Ok tt
 ranges channel (l ∷ ls) [] = Ok tt
 ranges channel (l ∷ ls) (u ∷ us) = after (range l u channel) (λ _. ranges (suc channel) ls us)
 
+-- a count as the centre of a range
+abbrev pub inside : ℤ → ℤ → ℤ → ℕ → Result ℤ Fault
+inside l u x channel = cond (int_le l x && int_le x u) (Ok x) (refused Centre channel)
+
 -- the centre, inside the range of its channel
 abbrev pub centred : ℤ → ℤ → ℤ → ℕ → Result ℤ Fault
-centred l u x channel = after (counted x channel) (λ x. cond (int_le l x && int_le x u) (Ok x) (refused Centre channel))
+centred l u x channel = after (counted x channel) (λ x. inside l u x channel)
 
 abbrev pub opened : List ℤ → List ℤ → ℕ → ℤ → Result Box Fault
 opened lower upper swept centre =
