@@ -4,22 +4,24 @@ use Rattle.std.specs.List.{slice_get}
 use Rattle.fault.specs.Refusals.{after, found}
 use Rattle.fault.specs.declared.fault.Cause.TheVariants.{NoChannel}
 use Rattle.fault.specs.declared.fault.Fault.{Fault}
-use Rattle.boxes.specs.Boxes.{Box, counted, inside, ordered}
+use Rattle.boxes.specs.Boxes.{Box, counted, inside, ordered, range}
+
+-- three counts as a range and its centre
+abbrev pub about : ℤ → ℤ → ℤ → ℕ → Result (ℤ × ℤ × ℤ) Fault
+about l u x channel = after (ordered l u channel) (λ r. after (inside r.0 r.1 x channel) (λ x. Ok (r.0, r.1, x)))
+
+-- the range of a swept channel and its centre: all three counts are judged first
+abbrev pub range_about : ℤ → ℤ → ℤ → ℕ → Result (ℤ × ℤ × ℤ) Fault
+range_about l u x channel = after (counted l channel) (λ l. after (counted u channel) (λ u. after (counted x channel) (λ x. about l u x channel)))
 
 -- the box with these ends for a channel, and this centre
 abbrev pub changed : Box → ℕ → ℤ → ℤ → ℤ → Box
-changed b channel l u x = record b { lower = slice_set b.lower channel l; upper = slice_set b.upper channel u; centre = x }
+changed b channel l u x = record { lower = slice_set b.lower channel l; upper = slice_set b.upper channel u; swept = b.swept; centre = x }
 
--- All counts are judged before the range, and the range before the centre in it. The centre of a channel that is not swept is not read.
+-- the centre is read only if the channel is the swept one
 abbrev pub moved : Box → ℕ → ℤ → ℤ → ℤ → Result Box Fault
 moved b channel lower upper centre =
     after (found NoChannel channel (slice_get b.lower channel)) (λ _.
-    after (counted lower channel) (λ l.
-    after (counted upper channel) (λ u.
     cond (channel == b.swept)
-        (after (counted centre channel) (λ x.
-        after (ordered l u channel) (λ _.
-        after (inside l u x channel) (λ _.
-        Ok (changed b channel l u x)))))
-        (after (ordered l u channel) (λ _.
-        Ok (changed b channel l u b.centre))))))
+    (after (range_about lower upper centre channel) (λ m. Ok (changed b channel m.0 m.1 m.2)))
+    (after (range lower upper channel) (λ r. Ok (changed b channel r.0 r.1 b.centre))))

@@ -27,7 +27,8 @@ pub(crate) fn ordered(lower: i32, upper: i32, channel: usize) -> Result<Range, F
     Ok(Range { lower, upper })
 }
 
-fn range(lower: i64, upper: i64, channel: usize) -> Result<Range, Fault>
+// The range of a channel.
+pub(crate) fn range(lower: i64, upper: i64, channel: usize) -> Result<Range, Fault>
     ensures { ranged result ≡ boxes.range lower upper channel }
 {
     let l = count(lower, channel)?;
