@@ -1,5 +1,5 @@
 -- Boxes: the ranges of the channels in counts, the swept channel and its centre.
-use Rattle.std.specs.Prelude.{◌≡◌, ℕ, suc, Bool, cond, not, ◌&&◌, ◌||◌, List, [], ◌∷◌, length, ℤ, pos, neg_ℤ, ◌≤ℤ◌, Some, Ok, Result, ◌==◌, int_le, nat_lt}
+use Rattle.std.specs.Prelude.{◌≡◌, ℕ, suc, ◌<◌, ◌≤◌, Bool, true, cond, not, ◌&&◌, ◌||◌, List, [], ◌∷◌, length, ℤ, pos, neg_ℤ, ◌≤ℤ◌, Some, Ok, Result, ◌==◌, int_le, nat_lt}
 use Rattle.std.specs.List.{slice_get}
 use Rattle.fault.specs.Refusals.{after, found, refused}
 use Rattle.fault.specs.declared.fault.Cause.TheVariants.{Centre, Channels, NoChannel, Number, Order}
@@ -22,6 +22,21 @@ blank_box = record { lower = pos 0 ∷ []; upper = pos 0 ∷ []; swept = 0; cent
 -- a count is a whole number from −1,073,741,823 to 1,073,741,823
 abbrev pub is_count : ℤ → Bool
 is_count n = int_le (neg_ℤ (pos 1073741823)) n && int_le n (pos 1073741823)
+
+-- the ends of a range: counts, in order
+pub record InOrder (l u : ℤ) : Type 0 where
+  pub low : is_count l ≡ true
+  pub high : is_count u ≡ true
+  pub order : l ≤ℤ u
+
+-- a box as open makes it: 1 to 8 channels, each with a range, and one of them swept about a centre in its range
+pub record Proper (b : Box) : Type 0 where
+  pub some : 0 < length b.lower
+  pub few : length b.lower ≤ 8
+  pub same : length b.lower ≡ length b.upper
+  pub ranges : (c : ℕ) (l u : ℤ) → slice_get b.lower c ≡ Some l → slice_get b.upper c ≡ Some u → InOrder l u
+  pub swept : b.swept < length b.lower
+  pub centre : Centred b
 
 -- ---- opening
 abbrev pub counted : ℤ → ℕ → Result ℤ Fault
