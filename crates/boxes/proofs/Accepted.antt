@@ -5,7 +5,7 @@ use Rattle.fault.specs.Refusals.{after, found}
 use Rattle.fault.specs.declared.fault.Cause.{Cause}
 use Rattle.fault.specs.declared.fault.Fault.{Fault}
 use Rattle.boxes.specs.Boxes.{InOrder, centred, counted, inside, is_count, ordered, range}
-use Rattle.boxes.specs.Moving.{range_about}
+use Rattle.boxes.specs.Moving.{about, range_about}
 
 -- ---- of a step, and of a choice
 module _ {Y : Type 0} where
@@ -68,21 +68,23 @@ centred_tells l u x channel {y} e =
     let c = inside_is l u a.0 channel a.2 in
     subst (λ z. (z ≡ y) × (l ≤ℤ z) × (z ≤ℤ u)) (sym x_is.0) c
 
+about_tells : (l u x : ℤ) (channel : ℕ) {m : ℤ × ℤ × ℤ} → about l u x channel ≡ Ok m → ((l, u, x) ≡ m) × (l ≤ℤ u) × ((l ≤ℤ x) × (x ≤ℤ u))
+about_tells l u x channel {m} e =
+    let r = ok_after (ordered l u channel) _ e in
+    let o = ordered_is l u channel r.1 in
+    let p = subst (λ p. after (inside p.0 p.1 x channel) (λ x. Ok (p.0, p.1, x)) ≡ Ok m) (sym o.0) r.2 in
+    let c = ok_after (inside l u x channel) _ p in
+    let i = inside_is l u x channel c.1 in
+    (ap (λ x. (l, u, x)) i.0 ∙ ok_is c.2, o.1, (i.1, i.2))
+
 pub range_about_tells : (l u x : ℤ) (channel : ℕ) {m : ℤ × ℤ × ℤ} → range_about l u x channel ≡ Ok m → ((l, u, x) ≡ m) × InOrder l u × ((l ≤ℤ x) × (x ≤ℤ u))
 range_about_tells l u x channel {m} e =
     let a = ok_after (counted l channel) _ e in
     let b = ok_after (counted u channel) _ a.2 in
     let c = ok_after (counted x channel) _ b.2 in
-    let d = ok_after (ordered a.0 b.0 channel) _ c.2 in
-    let f = ok_after (inside d.0.0 d.0.1 c.0 channel) _ d.2 in
     let l_is = counted_is l channel a.1 in
     let u_is = counted_is u channel b.1 in
     let x_is = counted_is x channel c.1 in
-    let o = ordered_is a.0 b.0 channel d.1 in
-    let i = inside_is d.0.0 d.0.1 c.0 channel f.1 in
-    let low : d.0.0 ≡ l = sym (l_is.0 ∙ ap (λ p. p.0) o.0) in
-    let high : d.0.1 ≡ u = sym (u_is.0 ∙ ap (λ p. p.1) o.0) in (
-      (λ j. (sym low j, sym high j, (x_is.0 ∙ i.0) j)) ∙ ok_is f.2,
-      record { low = l_is.1; high = u_is.1; order = subst₂ (λ l u. l ≤ℤ u) (sym l_is.0) (sym u_is.0) o.1 },
-      (subst₂ (λ l x. l ≤ℤ x) low (sym x_is.0) i.1, subst₂ (λ x u. x ≤ℤ u) (sym x_is.0) high i.2),
-    )
+    let p : about l u x channel ≡ Ok m = (λ i. about (l_is.0 i) (u_is.0 i) (x_is.0 i) channel) ∙ c.2 in
+    let t = about_tells l u x channel p in
+    (t.0, record { low = l_is.1; high = u_is.1; order = t.1 }, t.2)

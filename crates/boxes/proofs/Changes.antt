@@ -1,8 +1,9 @@
 -- Another range for one channel of a box.
-use Rattle.std.proofs.Common.{◌≡◌, ℕ, zero, suc, ◌<◌, List, [], ◌∷◌, length, take, set, ℤ, ◌≤ℤ◌, Some, refl, ap, ◌∙◌, sym, arith}
+use Rattle.std.proofs.Common.{length-set, ⊎_elim, ◌≡◌, ℕ, zero, suc, ◌<◌, List, [], ◌∷◌, length, take, set, ℤ, ◌≤ℤ◌, Some, refl, ap, ◌∙◌, sym, arith}
 use Rattle.std.proofs.Math.Seq.{take-set-lt}
 use Rattle.std.proofs.lemmas.List.{map-set}
-use Rattle.std.proofs.lemmas.Option.{same_Some}
+use Rattle.std.proofs.lemmas.Option.{same_Some, slice_get_within}
+use Rattle.std.proofs.lemmas.Bool.Decides.{eqb_tells}
 use Rattle.std.specs.List.{slice_get}
 use Rattle.boxes.specs.Moving.{changed}
 use Rattle.boxes.specs.Stored.{box_of, lowers, uppers}
@@ -23,13 +24,19 @@ module _ {X : Type 0} (y : X) where
   left (x ∷ xs) (suc i) zero h = refl
   left (x ∷ xs) (suc i) (suc j) h = left xs i j (λ e. h (ap suc e))
 
--- ---- a range of a stored box
-module _ (rs : List Range) (c : ℕ) (r : Range) where
-  -- is the range of its channel
-  pub its_own : c < length rs → {s : Range} → slice_get (set rs c r) c ≡ Some s → r ≡ s
-  its_own h e = same_Some r _ (sym (replaced r rs c h) ∙ e)
+-- an element that is found in it
+module _ {X : Type 0} (y : X) (xs : List X) (i j : ℕ) {z : X} (e : slice_get (set xs i y) j ≡ Some z) where
+  pub there : i ≡ j → y ≡ z
+  there s = same_Some y z (sym (replaced y xs i (let h = slice_get_within (set xs i y) j z e in omega (arith, h, s, length-set xs i y))) ∙ ap (slice_get (set xs i y)) s ∙ e)
 
-  -- and gives its ends
+  pub elsewhere : (i ≡ j → ⊥) → slice_get xs j ≡ Some z
+  elsewhere n = sym (left y xs i j n) ∙ e
+
+pub which : (i j : ℕ) {P : Type 0} → (i ≡ j → P) → ((i ≡ j → ⊥) → P) → P
+which i j f g = ⊎_elim (λ p. f p.1) (λ p. g p.1) (eqb_tells i j)
+
+-- ---- the ends of a stored box
+module _ (rs : List Range) (c : ℕ) (r : Range) where
   module _ (n : ℕ) (h : c < n) where
     pub low_set : lowers (take n (set rs c r)) ≡ set (lowers (take n rs)) c r.lower
     low_set = ap lowers (take-set-lt n rs c r h) ∙ map-set (λ r. r.lower) (take n rs) c r

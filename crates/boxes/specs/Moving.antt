@@ -14,14 +14,16 @@ about l u x channel = after (ordered l u channel) (λ r. after (inside r.0 r.1 x
 abbrev pub range_about : ℤ → ℤ → ℤ → ℕ → Result (ℤ × ℤ × ℤ) Fault
 range_about l u x channel = after (counted l channel) (λ l. after (counted u channel) (λ u. after (counted x channel) (λ x. about l u x channel)))
 
+-- the new range of a channel, and the box's new centre: that of a channel which is not swept is not read
+abbrev pub judged : Box → ℕ → ℤ → ℤ → ℤ → Result (ℤ × ℤ × ℤ) Fault
+judged b channel l u x = cond (channel == b.swept) (range_about l u x channel) (after (range l u channel) (λ r. Ok (r.0, r.1, b.centre)))
+
 -- the box with these ends for a channel, and this centre
 abbrev pub changed : Box → ℕ → ℤ → ℤ → ℤ → Box
 changed b channel l u x = record { lower = slice_set b.lower channel l; upper = slice_set b.upper channel u; swept = b.swept; centre = x }
 
--- the centre is read only if the channel is the swept one
 abbrev pub moved : Box → ℕ → ℤ → ℤ → ℤ → Result Box Fault
 moved b channel lower upper centre =
     after (found NoChannel channel (slice_get b.lower channel)) (λ _.
-    cond (channel == b.swept)
-    (after (range_about lower upper centre channel) (λ m. Ok (changed b channel m.0 m.1 m.2)))
-    (after (range lower upper channel) (λ r. Ok (changed b channel r.0 r.1 b.centre))))
+    after (judged b channel lower upper centre) (λ m.
+    Ok (changed b channel m.0 m.1 m.2)))

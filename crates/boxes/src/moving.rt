@@ -1,6 +1,5 @@
 // Giving one channel of a box another range.
 ghost use Rattle.std.specs.Prelude.{◌≡◌, ◌≢◌, ◌<◌, ◌≤ℤ◌};
-ghost use Rattle.boxes.specs.Moving.{changed};
 ghost use Rattle.boxes.specs.Moving as moving;
 ghost use Rattle.boxes.specs.Stored.{box_of, boxed, ranged_about};
 
@@ -29,30 +28,32 @@ fn range_about(lower: i64, upper: i64, centre: i64, channel: usize) -> Result<(R
 }
 
 impl ChannelBox {
-    // Another range for a channel that is not swept.
-    fn with_range(&self, channel: usize, range: Range) -> ChannelBox
+    // The new range of a channel, and the box's new centre: that of a channel which is not swept is not read.
+    fn judged(
+        &self,
+        channel: usize,
+        lower: i64,
+        upper: i64,
+        centre: i64,
+    ) -> Result<(Range, i32), Fault>
+        ensures { ranged_about result ≡ moving.judged (box_of self.now) channel lower upper centre }
+    {
+        if channel == self.swept {
+            return range_about(lower, upper, centre, channel);
+        }
+        let range = range(lower, upper, channel)?;
+        Ok((range, self.centre))
+    }
+
+    // The box with this range for a channel, and this centre.
+    fn changed(&self, channel: usize, range: Range, centre: i32) -> ChannelBox
         requires held { channel < self.now.channels }
-        requires still { channel ≢ self.now.swept }
-        ensures { box_of result ≡ changed (box_of self.now) channel range.lower range.upper self.now.centre }
+        requires within { channel ≡ self.now.swept → (range.lower ≤ℤ centre) × (centre ≤ℤ range.upper) }
+        requires still { channel ≢ self.now.swept → centre ≡ self.now.centre }
+        ensures { box_of result ≡ moving.changed (box_of self.now) channel range.lower range.upper centre }
     {
         let mut ranges = self.ranges;
         ranges[channel] = range;
-        ChannelBox {
-            ranges,
-            channels: self.channels,
-            swept: self.swept,
-            centre: self.centre,
-        }
-    }
-
-    // Another range for the swept channel, about a centre.
-    fn with_centre(&self, range: Range, centre: i32) -> ChannelBox
-        requires low { range.lower ≤ℤ centre }
-        requires high { centre ≤ℤ range.upper }
-        ensures { box_of result ≡ changed (box_of self.now) self.now.swept range.lower range.upper centre }
-    {
-        let mut ranges = self.ranges;
-        ranges[self.swept] = range;
         ChannelBox {
             ranges,
             channels: self.channels,
@@ -61,7 +62,7 @@ impl ChannelBox {
         }
     }
 
-    // The box with another range for a channel and, if it is the swept one, another centre, which is not read otherwise.
+    // The box with another range for a channel and, if it is the swept one, another centre. A refusal has the channel as its place.
     pub fn moved(
         &self,
         channel: usize,
@@ -74,11 +75,7 @@ impl ChannelBox {
         if channel >= self.channels {
             return Err(Cause::NoChannel.at(channel));
         }
-        if channel != self.swept {
-            let range = range(lower, upper, channel)?;
-            return Ok(self.with_range(channel, range));
-        }
-        let (range, centre) = range_about(lower, upper, centre, channel)?;
-        Ok(self.with_centre(range, centre))
+        let (range, centre) = self.judged(channel, lower, upper, centre)?;
+        Ok(self.changed(channel, range, centre))
     }
 }
