@@ -1,9 +1,10 @@
 -- The ends of the channels of a stored box.
-use Rattle.std.proofs.Common.{◌≡◌, ℕ, zero, suc, ◌<◌, List, [], ◌∷◌, get_or, map, take, Some, refl, ap, ◌∙◌, arith}
+use Rattle.std.proofs.Common.{◌≡◌, ℕ, zero, suc, ◌<◌, List, [], ◌∷◌, length, get_or, map, take, pos, Some, refl, ap, ◌∙◌, arith}
+use Rattle.std.proofs.lemmas.List.{length-map, length-take-le}
 use Rattle.std.proofs.lemmas.Option.{slice_get-get_or, slice_get-map}
 use Rattle.std.specs.List.{slice_get}
 use Rattle.std.specs.Option.{option_map}
-use Rattle.boxes.specs.Stored.{lowers, uppers}
+use Rattle.boxes.specs.Stored.{box_of, lowers, uppers}
 use Rattle.boxes.specs.declared.channels.ChannelBox.{ChannelBox}
 use Rattle.boxes.specs.declared.range.Range.{Range}
 
@@ -29,3 +30,11 @@ module _ (rs : List Range) (n c : ℕ) where
 -- the range of channel c as the code reads it
 pub stored_at : (b : ChannelBox) (c : ℕ) (d : Range) → c < b.channels → slice_get b.ranges c ≡ Some (get_or b.ranges c d)
 stored_at b c d h = slice_get-get_or b.ranges c d (let k = b.few in let w = b.whole in omega arith)
+
+-- a box of the code has as many ends as channels
+module _ (b : ChannelBox) where
+  pub length_of : {Y : Type 0} (f : Range → Y) → length (map f (take b.channels b.ranges)) ≡ b.channels
+  length_of f = length-map (take b.channels b.ranges) f ∙ length-take-le b.channels b.ranges (omega (arith, b.few, b.whole))
+
+  pub low_end : (c : ℕ) → c < b.channels → slice_get (box_of b).lower c ≡ Some (get_or (box_of b).lower c (pos 0))
+  low_end c h = slice_get-get_or (box_of b).lower c (pos 0) (omega (arith, h, length_of (λ r. r.lower)))

@@ -19,6 +19,11 @@ abbrev pub ranged : Result Range Fault → Result (ℤ × ℤ) Fault
 ranged (Ok r) = Ok (r.lower, r.upper)
 ranged (Err e) = Err e
 
+-- what an accepted range of the code and its centre hold
+abbrev pub ranged_about : Result (Range × ℤ) Fault → Result (ℤ × ℤ × ℤ) Fault
+ranged_about (Ok m) = Ok (m.0.lower, m.0.upper, m.1)
+ranged_about (Err e) = Err e
+
 -- what an accepted box of the code holds
 abbrev pub boxed : Result ChannelBox Fault → Result Box Fault
 boxed (Ok b) = Ok (box_of b)

@@ -2,6 +2,7 @@
 #![tactic(auto)]
 
 mod channels;
+mod moving;
 mod opening;
 mod range;
 

@@ -17,25 +17,40 @@ pub fn count(n: i64, place: usize) -> Result<i32, Fault>
     Ok(n as i32)
 }
 
-fn range(lower: i64, upper: i64, channel: usize) -> Result<Range, Fault>
+// Two counts as a range.
+pub(crate) fn ordered(lower: i32, upper: i32, channel: usize) -> Result<Range, Fault>
+    ensures { ranged result ≡ boxes.ordered lower upper channel }
+{
+    if lower > upper {
+        return Err(Cause::Order.at(channel));
+    }
+    Ok(Range { lower, upper })
+}
+
+// The range of a channel.
+pub(crate) fn range(lower: i64, upper: i64, channel: usize) -> Result<Range, Fault>
     ensures { ranged result ≡ boxes.range lower upper channel }
 {
     let l = count(lower, channel)?;
     let u = count(upper, channel)?;
-    if l > u {
-        return Err(Cause::Order.at(channel));
+    ordered(l, u, channel)
+}
+
+// A count as the centre of a range.
+pub(crate) fn inside(range: Range, centre: i32, channel: usize) -> Result<i32, Fault>
+    ensures { result ≡ boxes.inside range.lower range.upper centre channel }
+{
+    if centre < range.lower || centre > range.upper {
+        return Err(Cause::Centre.at(channel));
     }
-    Ok(Range { lower: l, upper: u })
+    Ok(centre)
 }
 
 fn centred(range: Range, centre: i64, channel: usize) -> Result<i32, Fault>
     ensures { result ≡ boxes.centred range.lower range.upper centre channel }
 {
     let x = count(centre, channel)?;
-    if x < range.lower || x > range.upper {
-        return Err(Cause::Centre.at(channel));
-    }
-    Ok(x)
+    inside(range, x, channel)
 }
 
 impl ChannelBox {

@@ -1,0 +1,42 @@
+-- Open takes a proper box again.
+use Rattle.std.proofs.Common.{◌≡◌, ℕ, suc, Bool, true, false, T, List, [], ◌∷◌, ℤ, pos, neg_ℤ, ◌≤ℤ◌, Some, Ok, ◌&&◌, sym, refl, ap₂, arith}
+use lib.Signed.{le_z}
+use Rattle.std.proofs.lemmas.Option.{slice_get-get_or}
+use Rattle.std.proofs.lemmas.Int.{ints}
+use Rattle.std.specs.List.{slice_get}
+use Rattle.boxes.proofs.Accepted.{both_true, le_is}
+use Rattle.boxes.proofs.Opened.{opens}
+use Rattle.boxes.specs.Boxes.{Box, InOrder, Proper, centred, is_count, opened, range, ranges}
+
+holds : (b : Bool) → T b → b ≡ true
+holds true h = refl
+holds false h = absurd h
+
+count_between : {l u x : ℤ} → InOrder l u → l ≤ℤ x → x ≤ℤ u → is_count x ≡ true
+count_between {l} {u} {x} r h k =
+    let low = both_true (le_z (neg_ℤ (pos 1073741823)) l) (le_z l (pos 1073741823)) r.low in
+    let high = both_true (le_z (neg_ℤ (pos 1073741823)) u) (le_z u (pos 1073741823)) r.high in
+    let a : neg_ℤ (pos 1073741823) ≤ℤ l = le_is low.0 in
+    let b : u ≤ℤ pos 1073741823 = le_is high.1 in
+    let c : neg_ℤ (pos 1073741823) ≤ℤ x = omega (arith, ints) in
+    let d : x ≤ℤ pos 1073741823 = omega (arith, ints) in
+    ap₂ (λ a b. a && b) (holds (le_z (neg_ℤ (pos 1073741823)) x) c.le) (holds (le_z x (pos 1073741823)) d.le)
+
+range_taken : {l u : ℤ} (channel : ℕ) → InOrder l u → range l u channel ≡ Ok (l, u)
+range_taken {l} {u} channel r = rw (r.low, r.high, holds (le_z l u) r.order.le)
+
+centred_taken : {l u x : ℤ} (channel : ℕ) → InOrder l u → l ≤ℤ x → x ≤ℤ u → centred l u x channel ≡ Ok x
+centred_taken {l} {u} {x} channel r h k = rw (count_between r h k, holds (le_z l x) h.le, holds (le_z x u) k.le)
+
+ranges_taken : (n : ℕ) (ls us : List ℤ) → ((c : ℕ) (l u : ℤ) → slice_get ls c ≡ Some l → slice_get us c ≡ Some u → InOrder l u) → ranges n ls us ≡ Ok tt
+ranges_taken n [] us all = refl
+ranges_taken n (l ∷ ls) [] all = refl
+ranges_taken n (l ∷ ls) (u ∷ us) all = rw (range_taken n (all 0 l u refl refl)) (ranges_taken (suc n) ls us (λ c. all (suc c)))
+
+pub reopens : (b : Box) → Proper b → opened b.lower b.upper b.swept b.centre ≡ Ok b
+reopens b p =
+    let el = slice_get-get_or b.lower b.swept (pos 0) p.swept in
+    let eu = slice_get-get_or b.upper b.swept (pos 0) (omega (arith, p.swept, p.same)) in
+    let r = p.ranges b.swept _ _ el eu in
+    let i = p.centre _ _ el eu in
+    sym (opens b.lower b.upper b.swept b.centre (λ e. omega (arith, p.some, e)) p.few p.same (ranges_taken 0 b.lower b.upper p.ranges) el eu {x = b.centre} refl refl refl refl (sym (centred_taken b.swept r i.0 i.1)))
