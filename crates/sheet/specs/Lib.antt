@@ -1,3 +1,4 @@
 pub mod Contents
 pub mod Calls
 pub mod Reading
+pub mod Moving

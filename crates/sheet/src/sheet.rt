@@ -7,6 +7,7 @@ use line::Line;
 mod adding;
 mod counting;
 mod lending;
+mod moving;
 mod opening;
 mod reading;
 mod reporting;

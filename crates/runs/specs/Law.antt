@@ -1,0 +1,87 @@
+-- The law over runs: after any calls, in any order, taken or refused, the sheet tells the truth.
+use Rattle.std.specs.Prelude.{◌≡◌, ℕ, ◌<◌, ◌≤◌, List, [], ◌∷◌, ◌++◌, length, take, Ok, Err, Some, Result}
+use Rattle.std.specs.List.{slice_get}
+use Rattle.boxes.specs.Boxes.{Box, opened}
+use Rattle.boxes.specs.Moving.{moved}
+use Rattle.exact.specs.Fraction.{Frac}
+use Rattle.fault.specs.Refusals.{after}
+use Rattle.fault.specs.declared.fault.Fault.{Fault}
+use Rattle.kind.specs.Model.{Model}
+use Rattle.line.specs.declared.line.Line.{Line}
+use Rattle.report.specs.Near.{Near}
+use Rattle.report.specs.declared.answer.Report.{Report}
+use Rattle.rule.specs.Exact.{InBox, Point, value_of}
+use Rattle.rule.specs.Records.{Tells, records}
+use Rattle.runs.specs.Events.{Event, History, held, present}
+use Rattle.runs.specs.Runs.{Run, accepted, handed}
+use Rattle.runs.specs.declared.call.Answer.{Answer}
+use Rattle.runs.specs.declared.call.Answer.TheVariants as answers
+use Rattle.runs.specs.declared.call.Call.{Call}
+use Rattle.runs.specs.declared.call.Call.TheVariants as calls
+use Rattle.sheet.specs.Calls.{Recorded, Written, accepts, next, numbered, report, strikes}
+use Rattle.sheet.specs.Contents.{Contents}
+use Rattle.sheet.specs.Moving.{move_onto}
+use Rattle.sheet.specs.Reading.{Read, read_onto}
+use Rattle.slope.specs.declared.record.Record.{Record}
+use Rattle.writer.specs.Writing.{needed}
+
+abbrev pub sheet_of : Box → List Line → Contents
+sheet_of b ls = record { over = b; lines = ls }
+
+module _ {K : Type 0} (m : Model K) where
+  -- ---- each call was taken or refused as the causes say, with records by the rules alone
+  -- the answer that is due to a call where these lines are held over this box
+  abbrev pub due : Box → List Line → Event → Call → Result Answer Fault
+  due b ls e (calls.Open o) = accepted (accepts (opened o.lower.now o.upper.now o.swept o.centre))
+  due b ls e (calls.Add line) = after (records m b ls) (λ rs. handed answers.Line (numbered (length ls) (next m (sheet_of b ls) e.working rs line)))
+  due b ls e calls.Strike = accepted (strikes (sheet_of b ls))
+  due b ls e (calls.Move v) = accepted (move_onto m (sheet_of b ls) e.working e.spare (moved b v.channel v.lower v.upper v.centre)).answer
+  due b ls e (calls.Read bytes) = accepted (read_onto m (sheet_of b ls) e.working bytes.now).answer
+  due b ls e calls.Write = handed answers.Length (needed ls e.room)
+  due b ls e (calls.Report line) = after (records m b ls) (λ rs. handed answers.Report (report m (sheet_of b ls) e.working rs line))
+
+  -- a line's exact value at every point of the box is at most the reported margin away from the reported middle
+  abbrev pub Encloses : Box → List Line → Event → Type 0
+  Encloses b ls e = (line : ℕ) (r : Report) → e.call ≡ calls.Report line → e.answer ≡ Ok (answers.Report r)
+      → (p : Point) → InBox b p → (u : Frac) × (value_of p ls line ≡ Some u) × Near r u
+
+  abbrev pub Answers : History → Type 0
+  Answers [] = Unit {0}
+  Answers (e ∷ h) = Answers h × (e.answer ≡ due (present h) (held h) e e.call) × Encloses (present h) (held h) e
+
+  -- ---- a fresh sheet is opened with a box, and lines are added in order
+  abbrev pub Opens : Box → Call → Type 0
+  Opens b (calls.Open o) = (o.lower.now ≡ b.lower) × (o.upper.now ≡ b.upper) × (o.swept ≡ b.swept) × (o.centre ≡ b.centre)
+  Opens b c = ⊥
+
+  pub data Freshly (b : Box) : List Line → History → Type 0 where
+    opens : {e : Event} → Opens b e.call → Freshly b [] (e ∷ [])
+    adds : {ls : List Line} {h : History} {e : Event} (line : Line) → Freshly b ls h → e.call ≡ calls.Add line → 64 ≤ e.working → Freshly b (ls ++ line ∷ []) (e ∷ h)
+
+  -- ---- what holds after a run
+  -- the memory begins with the records of the held lines
+  abbrev pub recorded : Contents → List (Record K) → List (Record K)
+  recorded s memory = take (length s.lines) memory
+
+  -- line i has a record in the memory, which tells the truth at a point
+  abbrev pub TellsAt : Contents → List (Record K) → Point → ℕ → Type 0
+  TellsAt s memory p i = (r : Record K) × (slice_get memory i ≡ Some r) × Tells m s.over p s.lines i r
+
+  pub record Sound (h : History) (s : Contents) (memory : List (Record K)) : Type 0 where
+    -- the sheet holds the present box and the held lines
+    pub sheet : s ≡ sheet_of (present h) (held h)
+    pub few : length s.lines ≤ 64
+    -- at every point of the present box each held line has an exact value, which lies in its span U, and both slope forms hold there
+    pub true : (p : Point) → InBox s.over p → (i : ℕ) → i < length s.lines → TellsAt s memory p i
+    -- every answer was due, and every report encloses
+    pub answers : Answers h
+    -- each held line has the record that the rules give it over the present box
+    pub records : Recorded m s memory
+    -- and so the one that a fresh sheet gives it: that sheet takes all lines, and has the same records
+    pub fresh : (h' : History) (s' : Contents) (memory' : List (Record K)) → Freshly s.over s.lines h' → Run m h' s' memory' → (s' ≡ s) × (recorded s memory' ≡ recorded s memory)
+    -- what the sheet writes is read as its lines, with their records, by an empty sheet over the same box
+    pub again : (out out' : List ℕ) (n : ℕ) → Written s out (Ok n) out' → (t t' : Contents) (w w' : List (Record K)) (r : Result (Unit {0}) Fault)
+        → t.over ≡ s.over → t.lines ≡ [] → 64 ≤ length w → Read m (take n out') t w r t' w' → (r ≡ Ok tt) × (t' ≡ s) × (recorded s w' ≡ recorded s memory)
+
+  abbrev pub RunsSound : Type 0
+  RunsSound = (h : History) (s : Contents) (memory : List (Record K)) → Run m h s memory → Sound h s memory

@@ -1,0 +1,8 @@
+// Runs of calls on one sheet, and the law over them.
+#![tactic(auto)]
+
+mod call;
+mod runs;
+
+pub use call::{Answer, Call, Opening, Moving};
+pub use runs::make;

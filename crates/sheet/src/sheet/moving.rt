@@ -1,0 +1,60 @@
+// Moving a channel.
+ghost use Rattle.std.specs.Prelude.{◌≡◌, ◌≤◌, true, [], length, is_ok};
+ghost use Rattle.boxes.specs.Stored.{box_of};
+ghost use Rattle.sheet.specs.Contents.{contents};
+ghost use Rattle.sheet.specs.Moving.{Moved, remade};
+ghost use Rattle.sheet.specs.Reading.{overlaid};
+
+use crate::sheet::Sheet;
+use crate::sheet::lending::{enough, keep};
+use boxes::ChannelBox;
+use fault::Fault;
+use kind::NumberKind;
+use rule::record_of;
+use slope::Record;
+
+// The first so many records become those of another slice.
+fn copy<K: NumberKind>(to: &mut [Record<K>], from: &[Record<K>], count: usize)
+    requires to { count ≤ length to.old }
+    requires from { count ≤ length from.now }
+    ensures { to.new ≡ overlaid (take count from.now) to.old }
+{
+    to[..count].copy_from_slice(&from[..count]);
+}
+
+impl Sheet {
+    // Makes the records of the held lines anew over a box, in the spare lines.
+    fn remake<K: NumberKind>(&self, over: &ChannelBox, spare: &mut [Record<K>]) -> Result<(), Fault>
+        requires room { 64 ≤ length spare.old }
+        ensures answer { result ≡ (remade K.NumberKind.model (box_of over.now) (contents self.now).lines [] []).answer }
+        ensures records { spare.new ≡ overlaid (remade K.NumberKind.model (box_of over.now) (contents self.now).lines [] []).records spare.old }
+    {
+        for n in 0..self.held {
+            let made = record_of(over, &spare[..n], self.lines[n])?;
+            keep(spare, n, made);
+        }
+        Ok(())
+    }
+
+    // Gives a channel a new range, and the swept one a new centre, and makes all records anew. A refusal leaves the sheet and the working
+    // lines as they were, and the records made before it in the spare lines.
+    pub fn move_channel<K: NumberKind>(
+        &mut self,
+        working: &mut [Record<K>],
+        spare: &mut [Record<K>],
+        channel: usize,
+        lower: i64,
+        upper: i64,
+        centre: i64,
+    ) -> Result<(), Fault>
+        ensures { Moved K.NumberKind.model channel lower upper centre (contents self.old) working.old spare.old result (contents self.new) working.new spare.new }
+    {
+        enough(working)?;
+        enough(spare)?;
+        let over = self.over.moved(channel, lower, upper, centre)?;
+        self.remake(&over, spare)?;
+        copy(working, spare, self.held);
+        self.over = over;
+        Ok(())
+    }
+}
