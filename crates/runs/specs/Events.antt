@@ -1,6 +1,7 @@
 -- Calls with their answers, and what they say of the present box and the held lines.
-use Rattle.std.specs.Prelude.{◌-◌, ℕ, cond, List, [], ◌∷◌, ◌++◌, length, take, ℤ, Ok, Err, Result, ◌==◌, slice_set}
+use Rattle.std.specs.Prelude.{◌-◌, ℕ, cond, List, [], ◌∷◌, ◌++◌, length, take, ℤ, Ok, Err, Result, ◌==◌}
 use Rattle.boxes.specs.Boxes.{Box, blank_box}
+use Rattle.boxes.specs.Moving.{changed}
 use Rattle.fault.specs.declared.fault.Fault.{Fault}
 use Rattle.line.specs.declared.line.Line.{Line}
 use Rattle.reader.specs.Reading.{formula_at}
@@ -28,7 +29,7 @@ box_given o = record { lower = o.lower.now; upper = o.upper.now; swept = o.swept
 
 abbrev pub box_after : Box → Call → Result Answer Fault → Box
 box_after b (Open o) (Ok _) = box_given o
-box_after b (Move v) (Ok _) = record { lower = slice_set b.lower v.channel v.lower; upper = slice_set b.upper v.channel v.upper; swept = b.swept; centre = cond (v.channel == b.swept) v.centre b.centre }
+box_after b (Move v) (Ok _) = changed b v.channel v.lower v.upper (cond (v.channel == b.swept) v.centre b.centre)
 box_after b c a = b
 
 abbrev pub present : History → Box
@@ -36,13 +37,13 @@ present [] = blank_box
 present (e ∷ h) = box_after (present h) e.call e.answer
 
 -- ---- the held lines: those that add and read accepted since that open, in order, less the last one at each accepted strike
+abbrev pub given_of : Result (List Line) Fault → List Line
+given_of (Ok ls) = ls
+given_of (Err e) = []
+
 -- the lines of bytes
 abbrev pub lines_given : List ℕ → List Line
-lines_given bytes = by (formula_at bytes)
-  where
-    by : Result (List Line) Fault → List Line
-    by (Ok ls) = ls
-    by (Err e) = []
+lines_given bytes = given_of (formula_at bytes)
 
 abbrev pub lines_after : List Line → Call → Result Answer Fault → List Line
 lines_after ls (Open o) (Ok _) = []

@@ -9,6 +9,7 @@ use Rattle.line.specs.declared.line.Line.{Line}
 use Rattle.reader.specs.Reading.{Stands, end_at, line_at}
 use Rattle.rule.specs.Rule.{rule}
 use Rattle.slope.specs.declared.record.Record.{Record}
+use Rattle.sheet.proofs.Overlay.{Front, front_grows, front_is}
 use Rattle.sheet.specs.Reading.{Outcome, ends, goes_on, overlaid, read_lines}
 
 no_ok : {X : Type 0} (e : Fault) (r : Result X Fault) → IsErrAnd r (λ y. y ≡ e) → is_ok r ≡ true → ⊥
@@ -33,9 +34,7 @@ module _ {K : Type 0} (m : Model K) (b : Box) (count : ℕ) (bytes : List ℕ) (
   -- n lines are read, and the reader stands at a place
   pub record Going (lines : List Line) (working : List (Record K)) (place n : ℕ) : Type 0 where
     pub so_far : outcome ≡ read_lines m b (count - n) bytes place (take n lines) (take n working)
-    pub rest : drop n working ≡ drop n w0
-    pub long : length working ≡ length w0
-    pub within : n ≤ length working
+    pub front : Front working w0 n
     pub some : n ≤ count
 
   -- the reading has ended
@@ -49,8 +48,7 @@ module _ {K : Type 0} (m : Model K) (b : Box) (count : ℕ) (bytes : List ℕ) (
     ended r all e = record {
       answer_is = sym (ap (λ o. o.answer) e);
       lines_are = λ t. ap (λ k. take k lines) (sym (all t)) ∙ sym (ap (λ o. o.lines) e);
-      records_are = sym (ap (λ o. overlaid o.records w0) e
-          ∙ ap (λ k. take n working ++ drop k w0) (length-take-le n working g.within) ∙ ap (λ ws. take n working ++ ws) (sym g.rest) ∙ take-append-drop n working);
+      records_are = front_is g.front ∙ sym (ap (λ o. overlaid o.records w0) e);
     }
 
     pub going_end : count ≤ n → (r : Result (Unit {0}) Fault) → r ≡ end_at bytes place → Ended r lines working
@@ -79,11 +77,6 @@ module _ {K : Type 0} (m : Model K) (b : Box) (count : ℕ) (bytes : List ℕ) (
         going_on {made} e f hl hw = subst (λ w. Going (set lines n line) w place' (n + 1)) (sym e) (record {
           so_far = next_line ∙ ap one q ∙ ap two (sym f)
               ∙ ap₂ (read_lines m b (count - (n + 1)) bytes place') (sym (take_more_set lines n line hl)) (sym (take_more_set working n made hw));
-          rest = drop-set-lt (n + 1) working n made (omega arith) ∙ later;
-          long = length-set working n made ∙ g.long;
-          within = let l = length-set working n made in omega arith;
+          front = front_grows g.front made hw;
           some = omega arith;
         })
-          where
-            later : drop (n + 1) working ≡ drop (n + 1) w0
-            later = sym (drop-drop 1 n working) ∙ ap (drop 1) g.rest ∙ drop-drop 1 n w0

@@ -98,7 +98,7 @@ module _ {K : Type 0} (m : Model K) (b : Box) where
         ∙ ap (λ xs. ends (Ok tt) xs made) (append_assoc before (l ∷ []) ls))
 
   -- a reading that was accepted went on at each step
-  goes_ok : {X : Type 0} (P : Type 0) (x : Result X Fault) (ls : List Line) (rs : List (Record K)) (f : X → Outcome K) (all : List Line) (made : List (Record K)) → goes_on x ls rs f ≡ ends (Ok tt) all made
+  pub goes_ok : {X : Type 0} (P : Type 0) (x : Result X Fault) (ls : List Line) (rs : List (Record K)) (f : X → Outcome K) (all : List Line) (made : List (Record K)) → goes_on x ls rs f ≡ ends (Ok tt) all made
       → ((y : X) → x ≡ Ok y → f y ≡ ends (Ok tt) all made → P) → P
   goes_ok P (Ok y) ls rs f all made e k = k y refl e
   goes_ok P (Err d) ls rs f all made e k = absurd (err_ok (ap (λ o. o.answer) e))

@@ -22,7 +22,7 @@ loop-n-preserved g c = (
   going_on g.K.NumberKind.model (box_of c.args.self.now.over) c.args.count c.args.bytes.now c.args.from.at c.args.working.now c.loop-n.invariant.0 c.loop-n-test.true
       (stands_ok _ _ _ c.line_at.ensures c.in_ok-line.was) c.keep.ensures
       (c.in_ok-made.ensures.value ∙ ap (λ o. rule g.K.NumberKind.model (box_of o) (take c.loop-n.n c.loop-n.working) c.in_ok-line.line) c.loop-n.invariant.1)
-      (omega (arith, c.loop-n.self.whole, c.loop-n-test.true, c.requires.most)) (omega (arith, c.loop-n-test.true, c.requires.room, c.requires.most, c.loop-n.invariant.0.long)),
+      (omega (arith, c.loop-n.self.whole, c.loop-n-test.true, c.requires.most)) (omega (arith, c.loop-n-test.true, c.requires.room, c.requires.most, c.loop-n.invariant.0.front.long)),
   c.loop-n.invariant.1,
   c.loop-n.invariant.2,
 )
