@@ -12,7 +12,7 @@ use Rattle.boxes.specs.declared.range.Range.{Range}
 
 -- ---- the elements of a list with one replaced
 module _ {X : Type 0} (y : X) where
-  pub replaced : (xs : List X) (i : ℕ) → i < length xs → slice_get (set xs i y) i ≡ Some y
+  replaced : (xs : List X) (i : ℕ) → i < length xs → slice_get (set xs i y) i ≡ Some y
   replaced [] i h = absurd (omega arith)
   replaced (x ∷ xs) zero h = refl
   replaced (x ∷ xs) (suc i) h = replaced xs i (omega arith)
@@ -32,17 +32,17 @@ module _ {X : Type 0} (y : X) (xs : List X) (i j : ℕ) {z : X} (e : slice_get (
   pub elsewhere : (i ≡ j → ⊥) → slice_get xs j ≡ Some z
   elsewhere n = sym (left y xs i j n) ∙ e
 
+-- two cases
 pub which : (i j : ℕ) {P : Type 0} → (i ≡ j → P) → ((i ≡ j → ⊥) → P) → P
 which i j f g = ⊎_elim (λ p. f p.1) (λ p. g p.1) (eqb_tells i j)
 
 -- ---- the ends of a stored box
-module _ (rs : List Range) (c : ℕ) (r : Range) where
-  module _ (n : ℕ) (h : c < n) where
-    pub low_set : lowers (take n (set rs c r)) ≡ set (lowers (take n rs)) c r.lower
-    low_set = ap lowers (take-set-lt n rs c r h) ∙ map-set (λ r. r.lower) (take n rs) c r
+module _ (rs : List Range) (c : ℕ) (r : Range) (n : ℕ) (h : c < n) where
+  low_set : lowers (take n (set rs c r)) ≡ set (lowers (take n rs)) c r.lower
+  low_set = ap lowers (take-set-lt n rs c r h) ∙ map-set (λ r. r.lower) (take n rs) c r
 
-    pub high_set : uppers (take n (set rs c r)) ≡ set (uppers (take n rs)) c r.upper
-    high_set = ap uppers (take-set-lt n rs c r h) ∙ map-set (λ r. r.upper) (take n rs) c r
+  high_set : uppers (take n (set rs c r)) ≡ set (uppers (take n rs)) c r.upper
+  high_set = ap uppers (take-set-lt n rs c r h) ∙ map-set (λ r. r.upper) (take n rs) c r
 
 -- what the code's box holds with another range for a channel
 pub changed_is : (b : ChannelBox) (c : ℕ) (r : Range) {x x' : ℤ} → x' ≡ x → c < b.channels

@@ -7,7 +7,7 @@ use Rattle.fault.specs.Refusals.{after, found}
 use Rattle.fault.specs.declared.fault.Fault.{Fault}
 use Rattle.fault.specs.declared.fault.Cause.TheVariants.{NoChannel}
 use Rattle.boxes.proofs.Accepted.{centred_tells, ok_after, ok_found, ok_is, ok_unless, range_tells}
-use Rattle.boxes.proofs.Changes.{elsewhere, there, which}
+use Rattle.boxes.proofs.Changes.{elsewhere, left, there, which}
 use Rattle.boxes.proofs.Moved.{Fits, judged_fits, judged_is}
 use Rattle.boxes.specs.Boxes.{Box, Centred, InOrder, Proper, blank_box, centred, opened, range, ranges}
 use Rattle.boxes.specs.Moving.{changed, judged, moved}
@@ -49,6 +49,22 @@ module _ (b : Box) (channel : ℕ) (lower upper centre : ℤ) {to : Box} (e : mo
   -- nothing changes but its range and, if it is swept, the centre
   pub moved_is : to ≡ changed b channel lower upper (cond (channel == b.swept) centre b.centre)
   moved_is = sym (ok_is judged_in.2) ∙ ap (λ m. changed b channel m.0 m.1 m.2) (sym (judged_is b channel lower upper centre judged_in.1))
+
+  -- so the swept channel, the number of channels and the ends of the other channels stay
+  pub moved_swept : to.swept ≡ b.swept
+  moved_swept = ap (λ b. b.swept) moved_is
+
+  pub moved_lowers : length to.lower ≡ length b.lower
+  moved_lowers = ap (λ b. length b.lower) moved_is ∙ length-set b.lower channel lower
+
+  pub moved_uppers : length to.upper ≡ length b.upper
+  moved_uppers = ap (λ b. length b.upper) moved_is ∙ length-set b.upper channel upper
+
+  pub others_low : (c : ℕ) → (channel ≡ c → ⊥) → slice_get to.lower c ≡ slice_get b.lower c
+  others_low c n = ap (λ b. slice_get b.lower c) moved_is ∙ left lower b.lower channel c n
+
+  pub others_high : (c : ℕ) → (channel ≡ c → ⊥) → slice_get to.upper c ≡ slice_get b.upper c
+  others_high c n = ap (λ b. slice_get b.upper c) moved_is ∙ left upper b.upper channel c n
 
   pub moved_proper : Proper b → Proper to
   moved_proper proper = subst Proper (ok_is judged_in.2) (changed_proper proper channel judged_in.0 (judged_fits b channel lower upper centre judged_in.1))
