@@ -1,6 +1,5 @@
 use Rattle.std.proofs.lemmas.Result.{err_from_is_err_and}
-use Rattle.leb.specs.declared.place.Place.{Place}
-use Rattle.std.proofs.Common.{Err, ap, ◌∙◌}
+use Rattle.std.proofs.Common.{Err, rules, ap, ◌∙◌}
 use Rattle.reader.proofs.Chains.{break_b, break_c, err_stands, ok_stands, stands_err, stands_ok, whole}
 use Rattle.reader.proofs.lines.line_at.Goals as goal
 
@@ -27,4 +26,4 @@ returns c =
     let e2 = stands_ok _ _ _ _ _ c.number-2.ensures.stands c.in_ok-a.was in
     let e3 = stands_ok _ _ _ _ _ c.operand_if.ensures c.in_ok-b.was in
     let e4 = stands_ok _ _ _ _ _ c.operand_if-2.ensures c.in_ok-c.was in
-    ok_stands _ _ _ _ _ _ (whole _ _ _ _ _ _ _ e1 c.if-operation-gt10.false e2 c.arity-operands.ensures _ _ e3 _ _ e4) c.line_of.ensures (ap (λ (p : Place). p.at) c.commit.ensures)
+    ok_stands _ _ _ _ _ _ (whole _ _ _ _ _ _ _ e1 c.if-operation-gt10.false e2 c.arity-operands.ensures _ _ e3 _ _ e4) c.line_of.ensures (search rules)
