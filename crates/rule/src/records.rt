@@ -36,7 +36,7 @@ fn swept_range<K: NumberKind>(range: Range, centre: i32, place: usize) -> Result
 }
 
 // The range of a channel, if the box has it.
-fn range_of(b: &ChannelBox, c: usize, place: usize) -> Result<Range, Fault>
+fn channel_range(b: &ChannelBox, c: usize, place: usize) -> Result<Range, Fault>
     ensures { result ≡ found NoChannel place (slice_get (take b.now.channels b.now.ranges) c) }
 {
     range_at(&b.ranges[..b.channels], c, place)
@@ -45,7 +45,7 @@ fn range_of(b: &ChannelBox, c: usize, place: usize) -> Result<Range, Fault>
 fn channel<K: NumberKind>(b: &ChannelBox, c: usize, place: usize) -> Result<Record<K>, Fault>
     ensures { result ≡ rules.channel K.NumberKind.model (box_of b.now) c place }
 {
-    let range = range_of(b, c, place)?;
+    let range = channel_range(b, c, place)?;
     if c == b.swept {
         swept_range(range, b.centre, place)
     } else {
