@@ -1,5 +1,5 @@
 -- Judging the ranges of the channels one by one.
-use Rattle.std.proofs.Common.{◌≡◌, ℕ, suc, ◌+◌, ◌<◌, Bool, true, false, cond, List, [], ◌∷◌, ◌++◌, length, get_or, map, take, drop, set, ℤ, pos, IfOk, Some, Ok, Err, Result, sym, refl, ap, ◌∙◌, subst, ap₂, arith, length-set, take_all}
+use Rattle.std.proofs.Common.{◌≡◌, ℕ, suc, ◌+◌, ◌<◌, Bool, true, false, cond, List, [], ◌∷◌, ◌++◌, length, get_or, map, take, drop, set, ℤ, pos, IfOk, Ok, Err, Result, sym, refl, ap, ◌∙◌, subst, ap₂, arith, length-set, take_all}
 use lib.Signed.{le_z}
 use Rattle.std.proofs.lemmas.List.{drop_all, drop_more, map_push, take_more, take_more_set}
 use Rattle.fault.specs.Refusals.{after, refused}
