@@ -4,6 +4,7 @@ use Rattle.std.proofs.lemmas.List.{length-map, length-take-le}
 use Rattle.std.proofs.lemmas.Option.{slice_get-get_or, slice_get-map}
 use Rattle.std.specs.List.{slice_get}
 use Rattle.std.specs.Option.{option_map}
+use Rattle.fault.proofs.Steps.{none_some}
 use Rattle.boxes.specs.Stored.{box_of, lowers, uppers}
 use Rattle.boxes.specs.declared.channels.ChannelBox.{ChannelBox}
 use Rattle.boxes.specs.declared.range.Range.{Range}
@@ -15,6 +16,12 @@ module _ {X : Type 0} where
   first_at (suc n) [] i h = refl
   first_at (suc n) (x ∷ xs) zero h = refl
   first_at (suc n) (x ∷ xs) (suc i) h = first_at n xs i (omega arith)
+
+  pub first_in : (n : ℕ) (xs : List X) (i : ℕ) {x : X} → slice_get (take n xs) i ≡ Some x → (i < n) × (slice_get xs i ≡ Some x)
+  first_in zero xs i e = absurd (none_some e)
+  first_in (suc n) [] i e = absurd (none_some e)
+  first_in (suc n) (x ∷ xs) zero e = (omega arith, e)
+  first_in (suc n) (x ∷ xs) (suc i) e = let h = first_in n xs i e in (let k = h.0 in omega arith, h.1)
 
 module _ (rs : List Range) (n c : ℕ) where
   -- an end of each of the first ranges

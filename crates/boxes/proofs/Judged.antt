@@ -1,12 +1,10 @@
 -- Judging the ranges of the channels one by one.
-use Rattle.std.proofs.Common.{◌≡◌, ℕ, suc, ◌+◌, ◌<◌, Bool, true, false, cond, List, [], ◌∷◌, ◌++◌, length, get_or, map, take, drop, set, ℤ, pos, IfOk, Some, Ok, Err, Result, sym, refl, ap, ◌∙◌, subst, ap₂, arith, length-set, take_all}
+use Rattle.std.proofs.Common.{◌≡◌, ℕ, suc, ◌+◌, ◌<◌, Bool, true, false, cond, List, [], ◌∷◌, ◌++◌, length, get_or, map, take, drop, set, ℤ, pos, IfOk, Ok, Err, Result, sym, refl, ap, ◌∙◌, subst, ap₂, arith, length-set, take_all}
 use lib.Signed.{le_z}
 use Rattle.std.proofs.lemmas.List.{drop_all, drop_more, map_push, take_more, take_more_set}
-use Rattle.std.specs.List.{slice_get}
 use Rattle.fault.specs.Refusals.{after, refused}
 use Rattle.fault.specs.declared.fault.Cause.TheVariants.{Number, Order}
 use Rattle.fault.specs.declared.fault.Fault.{Fault}
-use Rattle.boxes.proofs.Ends.{lower_at, upper_at}
 use Rattle.boxes.specs.Boxes.{is_count, range, ranges}
 use Rattle.boxes.specs.Stored.{lowers, ranged, uppers}
 use Rattle.boxes.specs.declared.range.Range.{Range}
@@ -73,10 +71,3 @@ module _ {lower upper : List ℤ} where
 
     pub all_high : length lower ≡ length upper → uppers (take (length lower) rs) ≡ upper
     all_high = whole (λ r. r.upper) upper j.highs
-
-    module _ (c : ℕ) {r : Range} (h : c < length lower) (e : slice_get rs c ≡ Some r) where
-      pub low_at : slice_get lower c ≡ Some r.lower
-      low_at = ap (λ ls. slice_get ls c) (sym all_low) ∙ lower_at rs (length lower) c h e
-
-      pub high_at : length lower ≡ length upper → slice_get upper c ≡ Some r.upper
-      high_at same = ap (λ us. slice_get us c) (sym (all_high same)) ∙ upper_at rs (length lower) c h e

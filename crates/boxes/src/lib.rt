@@ -7,5 +7,5 @@ mod opening;
 mod range;
 
 pub use channels::ChannelBox;
-pub use opening::count;
+pub use opening::{count, range_at};
 pub use range::Range;

@@ -1,5 +1,8 @@
 // Making a box from lists of counts.
 ghost use Rattle.std.specs.Prelude.{◌≡◌};
+ghost use Rattle.std.specs.List.{slice_get};
+ghost use Rattle.fault.specs.Refusals.{found};
+ghost use Rattle.fault.specs.declared.fault.Cause.TheVariants.{NoChannel};
 ghost use Rattle.boxes.specs.Boxes as boxes;
 ghost use Rattle.boxes.specs.Stored.{box_of, boxed, ranged};
 
@@ -53,6 +56,16 @@ fn centred(range: Range, centre: i64, channel: usize) -> Result<i32, Fault>
     inside(range, x, channel)
 }
 
+// The range of a channel, if it is one of these.
+pub fn range_at(ranges: &[Range], channel: usize, place: usize) -> Result<Range, Fault>
+    ensures { result ≡ found NoChannel place (slice_get ranges.now channel) }
+{
+    ranges
+        .get(channel)
+        .copied()
+        .ok_or(Cause::NoChannel.at(place))
+}
+
 impl ChannelBox {
     // One channel from 0 to 0, swept about 0.
     pub fn blank() -> ChannelBox
@@ -85,10 +98,8 @@ impl ChannelBox {
         for c in 0..channels {
             ranges[c] = range(lower[c], upper[c], c)?;
         }
-        if swept >= channels {
-            return Err(Cause::NoChannel.at(swept));
-        }
-        let centre = centred(ranges[swept], centre, swept)?;
+        let swept_range = range_at(&ranges[..channels], swept, swept)?;
+        let centre = centred(swept_range, centre, swept)?;
         Ok(ChannelBox {
             ranges,
             channels,

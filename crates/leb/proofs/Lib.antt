@@ -1,4 +1,5 @@
 pub mod Forms
 pub mod Joining
+pub mod Placing
 pub mod Reading
 pub mod Trip

@@ -2,10 +2,11 @@
 ghost use Rattle.std.specs.Prelude.{◌≡◌, ◌+◌, ◌≤◌, length, drop, nat_lt, position, IfOk, MatchResult};
 ghost use Rattle.leb.specs.Groups.{joined, Judged};
 ghost use Rattle.leb.specs.Numbers.{decode, size};
+ghost use Rattle.leb.specs.Places.{Stands, number_at};
 ghost use Rattle.leb.specs.Trips.{RoundTrips};
 
 use crate::place::Place;
-use fault::Cause;
+use fault::{Cause, Fault};
 
 const LARGEST: u64 = 2_147_483_647;
 
@@ -43,16 +44,16 @@ fn judged(groups: &[u8]) -> Option<u32>
     Some(value as u32)
 }
 
-// The number that bytes begin with, and how many they are.
+// The number that bytes begin with, and how many they are; refused at the first byte of its line.
 #[tactic(auto, using(crate::proofs::Reading::early, crate::proofs::Reading::refused, crate::proofs::Reading::size_is))]
-fn first_number(bytes: &[u8]) -> Result<(u32, usize), Cause>
-    ensures value { MatchResult result (λ p. decode bytes.now ≡ Ok p.0) (λ e. decode bytes.now ≡ Err e) }
+fn first_number(bytes: &[u8], line: usize) -> Result<(u32, usize), Fault>
+    ensures value { MatchResult result (λ p. decode bytes.now ≡ Ok p.0) (λ e. (decode bytes.now ≡ Err e.cause) × (e.place ≡ line)) }
     ensures size { IfOk result (λ p. p.1 ≡ size bytes.now) }
     ensures fits { IfOk result (λ p. p.1 ≤ length bytes.now) }
 {
-    let last = last_at(bytes).ok_or(Cause::Early)?;
+    let last = last_at(bytes).ok_or(Cause::Early.at(line))?;
     let groups = &bytes[..=last];
-    let n = judged(groups).ok_or(Cause::Form)?;
+    let n = judged(groups).ok_or(Cause::Form.at(line))?;
     Ok((n, groups.len()))
 }
 
@@ -63,15 +64,15 @@ fn bytes_from(bytes: &[u8], place: Place) -> &[u8]
     bytes.get(place.at..).unwrap_or_default()
 }
 
-// The number at a place, which then stands behind it. A refusal leaves the place. What is written as a number is read back, and
-// what was read has no other form. (The place is a record of its own beside the bytes, for the guard of a reader.)
+// The number at a place, which then stands behind it. A refusal leaves the place, and names the first byte of the number's line. What
+// is written as a number is read back, and what was read has no other form. (The place is a record of its own beside the bytes, for
+// the guard of a reader.)
 #[tactic(auto, using(crate::proofs::Trip::round_trips))]
-pub fn number(bytes: &[u8], place: &mut Place) -> Result<u32, Cause>
-    ensures value { result ≡ decode (drop place.old.at bytes.now) }
-    ensures place { MatchResult result (λ _. place.new.at ≡ place.old.at + size (drop place.old.at bytes.now)) (λ _. place.new ≡ place.old) }
+pub fn number(bytes: &[u8], place: &mut Place, line: usize) -> Result<u32, Fault>
+    ensures stands { Stands (number_at bytes.now place.old.at line) result place.old.at place.new.at }
     ensures trips { RoundTrips }
 {
-    let (n, size) = first_number(bytes_from(bytes, *place))?;
+    let (n, size) = first_number(bytes_from(bytes, *place), line)?;
     place.at += size;
     Ok(n)
 }

@@ -1,13 +1,12 @@
 -- From answers and places to the definition's answer.
 use Rattle.std.proofs.Common.{◌≡◌, ℕ, ◌≤◌, ltb, List, Ok, Err, Result, sym, ap, ◌∙◌, subst, ap₂, arith}
 use Rattle.std.proofs.lemmas.Bool.{le-ltb}
-use Rattle.fault.proofs.Steps.{err_ok}
 use Rattle.fault.specs.Refusals.{after}
-use Rattle.fault.specs.declared.fault.Cause.{Cause}
 use Rattle.fault.specs.declared.fault.Fault.{Fault}
+use Rattle.leb.specs.Places.{Stands, number_at}
 use Rattle.line.specs.Operations.{arity, line_of}
 use Rattle.line.specs.declared.line.Line.{Line}
-use Rattle.reader.specs.Reading.{Stands, line_at, number_at, operand_at, placed}
+use Rattle.reader.specs.Reading.{line_at, operand_at}
 
 pub stands_ok : {X : Type 0} (L : Result (X × ℕ) Fault) (r : Result X Fault) (x : X) (from to : ℕ) → Stands L r from to → r ≡ Ok x → L ≡ Ok (x, to)
 stands_ok (Ok p) r x from to s e = let a = s.0 in let b = s.1 in let q : p.0 ≡ x = cc in ap₂ (λ y t. Ok (y, t)) q (sym b)
@@ -39,7 +38,3 @@ module _ (bytes : List ℕ) (at op t1 a t2 n : ℕ) (e1 : number_at bytes at at 
 
     pub whole : (c t4 : ℕ) → operand_at (ltb 2 n) bytes t3 at ≡ Ok (c, t4) → line_at bytes at ≡ Ok (line_of op a b c, t4)
     whole c t4 e = two ∙ ap rest e3 ∙ ap (λ o. after o (λ c. Ok (line_of op a b c.0, c.1))) e
-
-pub placed_ok : {X : Type 0} (place : ℕ) (r : Result X Cause) (x : X) → placed place r ≡ Ok x → r ≡ Ok x
-placed_ok place (Ok y) x e = cc
-placed_ok place (Err c) x e = absurd (err_ok e)

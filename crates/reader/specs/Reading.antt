@@ -1,22 +1,12 @@
--- Reading formula bytes: numbers, lines, the count of lines.
-use Rattle.std.specs.Prelude.{◌≡◌, ℕ, zero, suc, ◌+◌, Bool, true, false, cond, List, [], ◌∷◌, ◌++◌, length, drop, Ok, Err, Result, ◌==◌, nat_lt}
+-- Reading formula bytes: lines, and the count of lines.
+use Rattle.std.specs.Prelude.{ℕ, zero, suc, Bool, true, false, cond, List, [], ◌∷◌, ◌++◌, length, Ok, Result, ◌==◌, nat_lt}
 use Rattle.fault.specs.Refusals.{after, refused}
-use Rattle.fault.specs.declared.fault.Cause.{Cause}
 use Rattle.fault.specs.declared.fault.Cause.TheVariants.{Count, Left, Operation}
 use Rattle.fault.specs.declared.fault.Fault.{Fault}
-use Rattle.leb.specs.Numbers.{decode, size}
+use Rattle.leb.specs.Places.{number_at}
 use Rattle.leb.specs.declared.place.Place.{Place}
 use Rattle.line.specs.Operations.{arity, line_of}
 use Rattle.line.specs.declared.line.Line.{Line}
-
--- a refusal gets its place
-abbrev pub placed : {X : Type 0} → ℕ → Result X Cause → Result X Fault
-placed place (Ok x) = Ok x
-placed place (Err c) = refused c place
-
--- the number at a place and where it ends; a refusal has the first byte of its line as place
-abbrev pub number_at : List ℕ → ℕ → ℕ → Result (ℕ × ℕ) Fault
-number_at bytes at line = after (placed line (decode (drop at bytes))) (λ n. Ok (n, at + size (drop at bytes)))
 
 -- an operand that the operation may not have
 abbrev pub operand_at : Bool → List ℕ → ℕ → ℕ → Result (ℕ × ℕ) Fault
@@ -40,11 +30,6 @@ count_at bytes = after (number_at bytes 0 0) (λ n. cond (nat_lt 64 n.0) (refuse
 -- nothing is left over behind the last line
 abbrev pub end_at : List ℕ → ℕ → Result (Unit {0}) Fault
 end_at bytes at = cond (nat_lt at (length bytes)) (refused Left at) (Ok tt)
-
--- what a reader answers and where it then stands: behind what was read, and where it was on a refusal
-abbrev pub Stands : {X : Type 0} → Result (X × ℕ) Fault → Result X Fault → ℕ → ℕ → Type 0
-Stands (Ok p) r from to = (r ≡ Ok p.0) × (to ≡ p.1)
-Stands (Err e) r from to = (r ≡ Err e) × (to ≡ from)
 
 -- so many lines from a place on, behind those read before; nothing is left over behind the last
 abbrev pub lines_from : ℕ → List ℕ → ℕ → List Line → Result (List Line) Fault

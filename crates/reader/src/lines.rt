@@ -1,7 +1,7 @@
-// Numbers, lines and the count of lines. (The place is a record of its own beside the bytes, since the guard is over it alone: so
+// Lines, and the count of lines. (The place is a record of its own beside the bytes, since the guard is over it alone: so
 // this project has it.)
 ghost use Rattle.std.specs.Prelude.{◌≡◌};
-ghost use Rattle.reader.specs.Reading.{Stands};
+ghost use Rattle.leb.specs.Places.{Stands};
 ghost use Rattle.reader.specs.Reading as reading;
 
 use crate::guard::Guard;
@@ -9,19 +9,12 @@ use fault::{Cause, Fault};
 use leb::{Place, number};
 use line::{Line, arity, line_of};
 
-// One number of the line that begins at `line`.
-fn operand(bytes: &[u8], place: &mut Place, line: usize) -> Result<u32, Fault>
-    ensures { Stands (reading.number_at bytes.now place.old.at line) result place.old.at place.new.at }
-{
-    number(bytes, place).map_err(|cause| cause.at(line))
-}
-
 // An operand that the operation may not have: then 0, which `line_of` passes over. (One function, since an `if` at each call is longer.)
 fn operand_if(wanted: bool, bytes: &[u8], place: &mut Place, line: usize) -> Result<u32, Fault>
     ensures { Stands (reading.operand_at wanted bytes.now place.old.at line) result place.old.at place.new.at }
 {
     if wanted {
-        operand(bytes, place, line)
+        number(bytes, place, line)
     } else {
         Ok(0)
     }
@@ -33,11 +26,11 @@ pub fn line_at(bytes: &[u8], place: &mut Place) -> Result<Line, Fault>
 {
     let start = place.at;
     let guard = Guard { place, start };
-    let operation = operand(bytes, guard.place, start)?;
+    let operation = number(bytes, guard.place, start)?;
     if operation > 10 {
         return Err(Cause::Operation.at(start));
     }
-    let a = operand(bytes, guard.place, start)?;
+    let a = number(bytes, guard.place, start)?;
     let operands = arity(operation);
     let b = operand_if(operands > 1, bytes, guard.place, start)?;
     let c = operand_if(operands > 2, bytes, guard.place, start)?;
@@ -50,7 +43,7 @@ pub fn count_at(bytes: &[u8]) -> Result<(usize, Place), Fault>
     ensures { result ≡ reading.count_at bytes.now }
 {
     let mut place = Place { at: 0 };
-    let count = operand(bytes, &mut place, 0)?;
+    let count = number(bytes, &mut place, 0)?;
     if !(1..=64).contains(&count) {
         return Err(Cause::Count.at(0));
     }

@@ -24,6 +24,19 @@ pub fn range_of<K: NumberKind>(b: &ChannelBox, r: &Record<K>) -> Span<K>
     narrowed(narrowed(r.u, first_form(r, d)), second_form(r, d))
 }
 
+// The ends of a range in whole 1/65,536, outward.
+fn low<K: NumberKind>(range: Span<K>) -> i64
+    ensures { result ≡ reports.low K.NumberKind.model range }
+{
+    range.lower.floor()
+}
+
+fn high<K: NumberKind>(range: Span<K>) -> i64
+    ensures { result ≡ reports.high K.NumberKind.model range }
+{
+    range.upper.ceiling()
+}
+
 // Half of a number, rounded down, also where it is negative.
 fn half(n: i64) -> i64
     ensures { result ≡ int_div_euclid n (pos 2) }
@@ -51,5 +64,5 @@ pub fn report_of<K: NumberKind>(b: &ChannelBox, r: &Record<K>) -> Report
     ensures truth { Covers K.NumberKind.model (box_of b.now) r.now (Near result) }
 {
     let range = range_of(b, r);
-    between(range.lower.floor(), range.upper.ceiling())
+    between(low(range), high(range))
 }

@@ -1,9 +1,13 @@
 -- What the record of a channel comes to, case by case.
-use Rattle.std.proofs.Common.{◌≡◌, ℕ, cond, eqb, ℤ, IsErrAnd, Some, Ok, Err, Option, Result, sym, ap, ◌∙◌, ap₂}
+use Rattle.std.proofs.Common.{◌≡◌, ℕ, cond, eqb, take, ℤ, IsErrAnd, Some, None, Ok, Err, Option, Result, sym, refl, ap, ◌∙◌, ap₂}
 use Rattle.std.proofs.lemmas.Result.{err_from_is_err_and}
 use Rattle.std.proofs.lemmas.Bool.{eq-eqb, ne_eqb}
+use Rattle.std.proofs.lemmas.Option.{slice_get-map}
 use Rattle.std.specs.List.{slice_get}
-use Rattle.boxes.specs.Boxes.{Box}
+use Rattle.std.specs.Option.{option_map}
+use Rattle.boxes.specs.Stored.{box_of}
+use Rattle.boxes.specs.declared.channels.ChannelBox.{ChannelBox}
+use Rattle.boxes.specs.declared.range.Range.{Range}
 use Rattle.exact.specs.Optional.{◌>>=◌}
 use Rattle.fault.specs.Refusals.{after, found}
 use Rattle.fault.specs.declared.fault.Cause.TheVariants.{NoChannel}
@@ -26,16 +30,33 @@ module _ {K : Type 0} (m : Model K) where
       ∙ sym (given_on place (λ x. o0 >>= (λ x0. Some (swept m x x0))) o x p)
       ∙ ap₂ (λ u v. given place (u >>= (λ x. v >>= (λ x0. Some (swept m x x0))))) (i ∙ ap₂ (of_counts m) l u) (i0 ∙ ap (λ z. of_counts m z z) n)
 
-  module _ (b : Box) (c place : ℕ) where
-    module _ (l u : ℤ) (p : slice_get b.lower c ≡ Some l) (q : slice_get b.upper c ≡ Some u) where
-      there : channel m b c place ≡ cond (eqb c b.swept) (swept_range m l u b.centre place) (still_range m l u place)
-      there = ap₂ (λ o n. after (found NoChannel place o) (λ lower. after (found NoChannel place n) (λ upper.
-          cond (eqb c b.swept) (swept_range m lower upper b.centre place) (still_range m lower upper place)))) p q
+  -- ---- by the stored range of the channel
+  module _ (b : ChannelBox) (c place : ℕ) where
+    abbrev pub stored : Result Range Fault
+    stored = found NoChannel place (slice_get (take b.channels b.ranges) c)
 
-      module _ {r : Result (Record K) Fault} where
-        pub the_swept : {x0 : ℤ} → x0 ≡ b.centre → r ≡ swept_range m l u x0 place → c ≡ b.swept → r ≡ channel m b c place
-        the_swept k h e = h ∙ ap (λ z. swept_range m l u z place) k
-            ∙ sym (there ∙ ap (λ k. cond k (swept_range m l u b.centre place) (still_range m l u place)) (eq-eqb _ _ e))
+    abbrev picked : ℤ → ℤ → Result (Record K) Fault
+    picked l u = cond (eqb c b.swept) (swept_range m l u b.centre place) (still_range m l u place)
 
-        pub another : r ≡ still_range m l u place → (c ≡ b.swept → ⊥) → r ≡ channel m b c place
-        another h n = h ∙ sym (there ∙ ap (λ k. cond k (swept_range m l u b.centre place) (still_range m l u place)) (ne_eqb _ _ n))
+    there : channel m (box_of b) c place ≡ after stored (λ r. picked r.lower r.upper)
+    there = ap₂ (λ o n. after (found NoChannel place o) (λ l. after (found NoChannel place n) (λ u. picked l u)))
+        (slice_get-map (λ r. r.lower) (take b.channels b.ranges) c) (slice_get-map (λ r. r.upper) (take b.channels b.ranges) c) ∙ both (slice_get (take b.channels b.ranges) c)
+      where
+        both : (o : Option Range) → after (found NoChannel place (option_map (λ r. r.lower) o)) (λ l. after (found NoChannel place (option_map (λ r. r.upper) o)) (λ u. picked l u))
+            ≡ after (found NoChannel place o) (λ r. picked r.lower r.upper)
+        both None = refl
+        both (Some r) = refl
+
+    pub no_channel : {x : Result (Record K) Fault} {e : Fault} → IsErrAnd x (λ y. y ≡ e) → Err e ≡ stored → x ≡ channel m (box_of b) c place
+    no_channel {x = x} h k = let p = err_from_is_err_and x h in p.1 ∙ ap Err p.2 ∙ sym (there ∙ ap (λ o. after o (λ r. picked r.lower r.upper)) (sym k))
+
+    module _ {r : Range} (k : Ok r ≡ stored) where
+      on : channel m (box_of b) c place ≡ picked r.lower r.upper
+      on = there ∙ ap (λ o. after o (λ r. picked r.lower r.upper)) (sym k)
+
+      pub the_swept : {x : Result (Record K) Fault} {x0 : ℤ} → x0 ≡ b.centre → x ≡ swept_range m r.lower r.upper x0 place → c ≡ b.swept → x ≡ channel m (box_of b) c place
+      the_swept q h e = h ∙ ap (λ z. swept_range m r.lower r.upper z place) q
+          ∙ sym (on ∙ ap (λ t. cond t (swept_range m r.lower r.upper b.centre place) (still_range m r.lower r.upper place)) (eq-eqb _ _ e))
+
+      pub another : {x : Result (Record K) Fault} → x ≡ still_range m r.lower r.upper place → (c ≡ b.swept → ⊥) → x ≡ channel m (box_of b) c place
+      another h n = h ∙ sym (on ∙ ap (λ t. cond t (swept_range m r.lower r.upper b.centre place) (still_range m r.lower r.upper place)) (ne_eqb _ _ n))

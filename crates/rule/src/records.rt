@@ -1,11 +1,14 @@
 // Making the record of a line.
-ghost use Rattle.std.specs.Prelude.{◌≡◌};
+ghost use Rattle.std.specs.Prelude.{◌≡◌, take};
+ghost use Rattle.std.specs.List.{slice_get};
+ghost use Rattle.fault.specs.Refusals.{found};
+ghost use Rattle.fault.specs.declared.fault.Cause.TheVariants.{NoChannel};
 ghost use Rattle.boxes.specs.Stored.{box_of};
 ghost use Rattle.rule.specs.Lent.{lent, lent_two};
 ghost use Rattle.rule.specs.Records.{RecordsTrue};
 ghost use Rattle.rule.specs.Rule as rules;
 
-use boxes::{ChannelBox, Range, count};
+use boxes::{ChannelBox, Range, count, range_at};
 use curve::{Magnitude, Square, lift};
 use fault::{Cause, Fault};
 use kind::NumberKind;
@@ -32,13 +35,17 @@ fn swept_range<K: NumberKind>(range: Range, centre: i32, place: usize) -> Result
     Ok(swept(x, x0))
 }
 
+// The range of a channel, if the box has it.
+fn channel_range(b: &ChannelBox, c: usize, place: usize) -> Result<Range, Fault>
+    ensures { result ≡ found NoChannel place (slice_get (take b.now.channels b.now.ranges) c) }
+{
+    range_at(&b.ranges[..b.channels], c, place)
+}
+
 fn channel<K: NumberKind>(b: &ChannelBox, c: usize, place: usize) -> Result<Record<K>, Fault>
     ensures { result ≡ rules.channel K.NumberKind.model (box_of b.now) c place }
 {
-    if c >= b.channels {
-        return Err(Cause::NoChannel.at(place));
-    }
-    let range = b.ranges[c];
+    let range = channel_range(b, c, place)?;
     if c == b.swept {
         swept_range(range, b.centre, place)
     } else {

@@ -5,8 +5,9 @@ use Rattle.std.proofs.lemmas.Result.{err_from_is_err_and}
 use Rattle.boxes.specs.Boxes.{Box}
 use Rattle.fault.specs.declared.fault.Fault.{Fault}
 use Rattle.kind.specs.Model.{Model}
+use Rattle.leb.specs.Places.{Stands}
 use Rattle.line.specs.declared.line.Line.{Line}
-use Rattle.reader.specs.Reading.{Stands, end_at, line_at}
+use Rattle.reader.specs.Reading.{end_at, line_at}
 use Rattle.rule.specs.Rule.{rule}
 use Rattle.slope.specs.declared.record.Record.{Record}
 use Rattle.sheet.proofs.Overlay.{Front, front_grows, front_is}

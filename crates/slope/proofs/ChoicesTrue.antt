@@ -73,13 +73,13 @@ module _ {K : Type 0} (m : Model K) (rules : Rules m) where
   picked : (P : Span K → Frac → Type 0) (s q r j : Span K) (a u v : Frac) → Held m s a
       → (branch_F a u v ≈ v → P r (branch_F a u v)) → (branch_F a u v ≈ u → P q (branch_F a u v)) → P j (branch_F a u v) → P (chosen m s q r j) (branch_F a u v)
   picked P s q r j a u v i over low between = by_le _ _ (λ w. P w (branch_F a u v)) _ _
-      (λ d. over (branch_over u v (from d) i))
-      (λ _. by_le _ _ (λ w. P w (branch_F a u v)) _ _ (λ _. between) (λ d. low (branch_under u v (under d) i)))
+      (λ _. by_le _ _ (λ w. P w (branch_F a u v)) _ _ (λ d. over (branch_over u v (from d) i)) (λ _. between))
+      (λ d. low (branch_under u v (under d) i))
 
   pub branch_kept : (s q r : Record K) → Branched m s q r (branch m s q r)
   branch_kept s q r h a a0 u u0 v v0 ts tq tr = by_le _ _ P _ _
-      (λ d. true-≈ m r h v v0 _ _ (≈_sym (branch_over u v (from d) ts.here)) (≈_sym (branch_over u0 v0 (from d) (inner m s h a a0 ts))) tr)
       (λ _. by_le _ _ P _ _
+      (λ d. true-≈ m r h v v0 _ _ (≈_sym (branch_over u v (from d) ts.here)) (≈_sym (branch_over u0 v0 (from d) (inner m s h a a0 ts))) tr)
       (λ _. record {
         here = branch_ind a u v (λ x. Held m (hull m q.u r.u) x) (λ _. hull_left m _ _ u tq.here) (λ _. hull_right m _ _ v tr.here);
         centre = picked (λ w x. Held m w x) s.u0 q.u0 r.u0 _ a0 u0 v0 ts.centre
@@ -88,8 +88,8 @@ module _ {K : Type 0} (m : Model K) (rules : Rules m) where
         nested = picked (λ w x. Within m w (hull m q.u r.u)) s.u0 q.u0 r.u0 _ a0 u0 v0 ts.centre
             (λ e. right_in_hull m _ _ _ tr.nested) (λ e. left_in_hull m _ _ _ tq.nested) (hull_nested m _ _ _ _ tq.nested tr.nested);
         slopes = tt;
-      })
-      (λ d. true-≈ m q h u u0 _ _ (≈_sym (branch_under u v (under d) ts.here)) (≈_sym (branch_under u0 v0 (under d) (inner m s h a a0 ts))) tq))
+      }))
+      (λ d. true-≈ m q h u u0 _ _ (≈_sym (branch_under u v (under d) ts.here)) (≈_sym (branch_under u0 v0 (under d) (inner m s h a a0 ts))) tq)
     where
       P : Record K → Type 0
       P x = True m x h (branch_F a u v) (branch_F a0 u0 v0)

@@ -96,9 +96,9 @@ module _ {K : Type 0} (m : Model K) where
       (cond (spans.clears m p.u q.u) q
       (rec (spans.lesser m p.u q.u) (spans.lesser m p.u0 q.u0) (hulls p q)))
 
-  -- ---- branch: r where s is not below 0, q where it is below 0, else the hull; a jump has no slopes
+  -- ---- branch: q where the upper end of s is below 0; r where its lower end is not; else the hull; a jump has no slopes
   abbrev pub chosen : {X : Type 0} → Span K → X → X → X → X
-  chosen s q r joint = cond (spans.from_zero m s.lower) r (cond (spans.from_zero m s.upper) joint q)
+  chosen s q r joint = cond (spans.from_zero m s.upper) (cond (spans.from_zero m s.lower) r joint) q
 
   abbrev pub branch : Record K → Record K → Record K → Record K
   branch s q r = chosen s.u q r (rec (spans.hull m q.u r.u) (chosen s.u0 q.u0 r.u0 (spans.hull m q.u0 r.u0)) None)

@@ -66,10 +66,12 @@ pub fn lesser<K: NumberKind>(p: &Record<K>, q: &Record<K>) -> Record<K>
 fn chosen<K: NumberKind>(s: Span<K>, q: Span<K>, r: Span<K>) -> Span<K>
     ensures { result ≡ rules.chosen K.NumberKind.model s q r (hull K.NumberKind.model q r) }
 {
-    if K::zero().at_most(s.lower) {
-        r
-    } else if K::zero().at_most(s.upper) {
-        q.hull(r)
+    if K::zero().at_most(s.upper) {
+        if K::zero().at_most(s.lower) {
+            r
+        } else {
+            q.hull(r)
+        }
     } else {
         q
     }
@@ -80,10 +82,12 @@ pub fn branch<K: NumberKind>(s: &Record<K>, q: &Record<K>, r: &Record<K>) -> Rec
     ensures value { result ≡ rules.branch K.NumberKind.model s.now q.now r.now }
     ensures truth { Branched K.NumberKind.model s.now q.now r.now result }
 {
-    if K::zero().at_most(s.u.lower) {
-        *r
-    } else if K::zero().at_most(s.u.upper) {
-        Record::flat(q.u.hull(r.u), chosen(s.u0, q.u0, r.u0))
+    if K::zero().at_most(s.u.upper) {
+        if K::zero().at_most(s.u.lower) {
+            *r
+        } else {
+            Record::flat(q.u.hull(r.u), chosen(s.u0, q.u0, r.u0))
+        }
     } else {
         *q
     }

@@ -1,8 +1,5 @@
 -- Members of intervals.
-use lib.Dec.{T}
-use Rattle.exact.proofs.Fractions.{≈_sym}
-use Rattle.exact.proofs.Order.{≤F_of_≈, ≤F_trans}
-use Rattle.exact.specs.Fraction.{Frac, ◌≈◌, neg_F}
+use Rattle.exact.specs.Fraction.{Frac, neg_F}
 use Rattle.exact.specs.Interval.{In, Interval}
 
 -- T holds the negatives of S
@@ -13,6 +10,3 @@ Mirrored S T = (x : Frac) → In x S → In (neg_F x) T
 pub record Hull (S T P : Interval) : Type 0 where
   pub left : (x : Frac) → In x S → In x P
   pub right : (x : Frac) → In x T → In x P
-
-pub in-≈ : {x y : Frac} {S : Interval} → x ≈ y → In x S → In y S
-in-≈ e i = record { low = ≤F_trans i.low (≤F_of_≈ e); high = ≤F_trans (≤F_of_≈ (≈_sym e)) i.high }

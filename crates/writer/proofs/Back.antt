@@ -6,13 +6,14 @@ use Rattle.fault.proofs.Steps.{after_ok, err_ok, ok_is}
 use Rattle.fault.specs.Refusals.{after, refused}
 use Rattle.fault.specs.declared.fault.Cause.TheVariants.{Count, Operation}
 use Rattle.fault.specs.declared.fault.Fault.{Fault}
+use Rattle.leb.proofs.Placing.{placed_ok}
 use Rattle.leb.proofs.Trip.{round_trips}
 use Rattle.leb.specs.Numbers.{Bytes, decode, encode, size}
+use Rattle.leb.specs.Places.{number_at, placed}
 use Rattle.leb.specs.declared.place.Place.{Place}
 use Rattle.line.specs.Operations.{arity, folded, line_of, unfolded}
 use Rattle.line.specs.declared.line.Line.{Line}
-use Rattle.reader.proofs.Chains.{placed_ok}
-use Rattle.reader.specs.Reading.{count_at, formula_at, line_at, lines_from, number_at, operand_at, placed}
+use Rattle.reader.specs.Reading.{count_at, formula_at, line_at, lines_from, operand_at}
 use Rattle.writer.proofs.There.{ended, there}
 use Rattle.writer.specs.Trips.{FormulaTrips}
 use Rattle.writer.specs.Writing.{formula_bytes, line_bytes, lines_bytes, operand_bytes}

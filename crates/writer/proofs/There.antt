@@ -7,12 +7,13 @@ use Rattle.fault.specs.declared.fault.Cause.TheVariants.{Count, Left}
 use Rattle.fault.specs.declared.fault.Fault.{Fault}
 use Rattle.leb.proofs.Trip.{round_trips}
 use Rattle.leb.specs.Numbers.{decode, encode, size}
+use Rattle.leb.specs.Places.{number_at, placed}
 use Rattle.leb.specs.declared.place.Place.{Place}
 use Rattle.line.specs.Operations.{arity, first, folded, line_of, operation, second, third, unfolded}
 use Rattle.line.specs.declared.line.Line.{Line}
 use Rattle.line.specs.declared.line.Line.TheVariants.{Branch, Channel, Constant, Difference, Greater, Lesser, Magnitude, Product, Quotient, Square, Sum}
 use Rattle.reader.proofs.Chains.{whole}
-use Rattle.reader.specs.Reading.{count_at, end_at, formula_at, line_at, lines_from, number_at, operand_at, placed}
+use Rattle.reader.specs.Reading.{count_at, end_at, formula_at, line_at, lines_from, operand_at}
 use Rattle.writer.proofs.LineBytes.{four}
 use Rattle.writer.specs.Trips.{AllReadable, Readable}
 use Rattle.writer.specs.Writing.{formula_bytes, line_bytes, lines_bytes, operand_bytes}

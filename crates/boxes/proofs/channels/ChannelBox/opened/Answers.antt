@@ -1,8 +1,7 @@
-use Rattle.std.proofs.Common.{ℕ, List, Err, get_or, ℤ, pos, sym, ap, ◌∙◌, arith, w32, w64, to_z, of_z, rules}
-use Rattle.std.proofs.lemmas.Option.{slice_get-get_or}
+use Rattle.std.proofs.Common.{ℕ, List, get_or, length, ℤ, pos, sym, ap, ◌∙◌, arith, w32, w64, to_z, of_z, rules}
 use Rattle.boxes.specs.Stored.{ranged}
-use Rattle.boxes.proofs.Judged.{all_high, all_low, high_at, judged_all, judged_on, judged_out, low_at}
-use Rattle.boxes.proofs.Opened.{bad_centre, bad_channel, centre_inside, exit, not_swept, opens}
+use Rattle.boxes.proofs.Judged.{all_high, all_low, judged_all, judged_on, judged_out}
+use Rattle.boxes.proofs.Opened.{bad_centre, bad_channel, centre_inside, exit, not_swept, opens, swept_inside}
 use Rattle.boxes.proofs.channels.ChannelBox.opened.Goals as goal
 
 -- an end of channel c as the code has it
@@ -20,36 +19,29 @@ loop-c-preserved c = judged_on c.loop-c.invariant c.loop-c-test.true (omega (ari
     {x = read c.args.lower.now c.loop-c.c} {y = read c.args.upper.now c.loop-c.c} (search rules) (search rules) c.in_ok-ranges.field-0
     (omega (arith, c.loop-c-test.true, c.if-channels-gt8.false)) (sym (ap ranged c.in_ok-ranges.was) ∙ c.range.ensures)
 
-pub returns-then-swept-channels : goal.returns-then-swept-channels
-returns-then-swept-channels c = ap Err c.at-then-swept-channels.ensures
-    ∙ not_swept c.args.lower.now c.args.upper.now c.args.swept c.args.centre c.if-channels-eq0.false c.if-channels-gt8.false c.if-channels-upper.false
-    (judged_all c.loop-c.invariant (search rules)) c.if-swept-channels.true
+pub returns-in_err-swept_range : goal.returns-in_err-swept_range
+returns-in_err-swept_range c = exit _ c.from_residual-in_err-swept_range.ensures.1
+    (not_swept c.args.lower.now c.args.upper.now c.args.swept c.args.centre c.if-channels-eq0.false c.if-channels-gt8.false c.if-channels-upper.false
+    (judged_all c.loop-c.invariant (search rules)) _ (all_low c.loop-c.invariant (search rules)) (all_high c.loop-c.invariant (search rules) c.if-channels-upper.false)
+    (sym c.in_err-swept_range.was ∙ c.range_at.ensures))
 
 pub returns-in_err-centre : goal.returns-in_err-centre
-returns-in_err-centre c =
-    let s = slice_get-get_or c.loop-c.ranges c.args.swept c.index-ranges-swept.result (omega (arith, c.if-swept-channels.false, c.if-channels-gt8.false, c.loop-c.invariant.all)) in
-    exit _ c.from_residual-in_err-centre.ensures.1
+returns-in_err-centre c = exit _ c.from_residual-in_err-centre.ensures.1
     (bad_centre c.args.lower.now c.args.upper.now c.args.swept c.args.centre c.if-channels-eq0.false c.if-channels-gt8.false c.if-channels-upper.false
-    (judged_all c.loop-c.invariant (search rules))
-    (low_at c.loop-c.invariant (search rules) c.args.swept c.if-swept-channels.false s) (high_at c.loop-c.invariant (search rules) c.args.swept c.if-swept-channels.false s c.if-channels-upper.false)
-    {x = to_z w64 (of_z w64 c.args.centre)} (search rules) (sym c.in_err-centre.was ∙ c.centred.ensures))
+    (judged_all c.loop-c.invariant (search rules)) _ (all_low c.loop-c.invariant (search rules)) (all_high c.loop-c.invariant (search rules) c.if-channels-upper.false)
+    (sym c.in_ok-swept_range.was ∙ c.range_at.ensures) {x = to_z w64 (of_z w64 c.args.centre)} (search rules) (sym c.in_err-centre.was ∙ c.centred.ensures))
 
 pub invariant_of-result : goal.invariant_of-result
 invariant_of-result c = record {
   whole = c.loop-c.invariant.all;
   few = c.if-channels-gt8.false;
-  inside = c.if-swept-channels.false;
-  centred = λ r e. centre_inside c.loop-c.ranges c.args.swept e (to_z w64 (of_z w64 c.args.centre)) c.index-ranges-swept.result {y = c.in_ok-centre.centre} {y' = to_z w32 (of_z w32 c.in_ok-centre.centre)} (search rules)
-      (sym c.in_ok-centre.was ∙ c.centred.ensures);
+  inside = swept_inside c.loop-c.ranges (length c.args.lower.now) c.args.swept (sym c.in_ok-swept_range.was ∙ c.range_at.ensures);
+  centred = λ r e. centre_inside c.loop-c.ranges (length c.args.lower.now) c.args.swept (sym c.in_ok-swept_range.was ∙ c.range_at.ensures) e (to_z w64 (of_z w64 c.args.centre))
+      {y = c.in_ok-centre.centre} {y' = to_z w32 (of_z w32 c.in_ok-centre.centre)} (search rules) (sym c.in_ok-centre.was ∙ c.centred.ensures);
 }
 
 pub returns : goal.returns
-returns c =
-    let s = slice_get-get_or c.loop-c.ranges c.args.swept c.index-ranges-swept.result (omega (arith, c.if-swept-channels.false, c.if-channels-gt8.false, c.loop-c.invariant.all)) in
-    opens c.args.lower.now c.args.upper.now c.args.swept c.args.centre c.if-channels-eq0.false c.if-channels-gt8.false c.if-channels-upper.false
-    (judged_all c.loop-c.invariant (search rules))
-    (low_at c.loop-c.invariant (search rules) c.args.swept c.if-swept-channels.false s) (high_at c.loop-c.invariant (search rules) c.args.swept c.if-swept-channels.false s c.if-channels-upper.false)
-    {x = to_z w64 (of_z w64 c.args.centre)} (search rules)
-    {y = c.in_ok-centre.centre} {y' = to_z w32 (of_z w32 c.in_ok-centre.centre)} (search rules)
-    (all_low c.loop-c.invariant (search rules)) (all_high c.loop-c.invariant (search rules) c.if-channels-upper.false)
-    (sym c.in_ok-centre.was ∙ c.centred.ensures)
+returns c = opens c.args.lower.now c.args.upper.now c.args.swept c.args.centre c.if-channels-eq0.false c.if-channels-gt8.false c.if-channels-upper.false
+    (judged_all c.loop-c.invariant (search rules)) _ (all_low c.loop-c.invariant (search rules)) (all_high c.loop-c.invariant (search rules) c.if-channels-upper.false)
+    (sym c.in_ok-swept_range.was ∙ c.range_at.ensures) {x = to_z w64 (of_z w64 c.args.centre)} (search rules)
+    {y = c.in_ok-centre.centre} {y' = to_z w32 (of_z w32 c.in_ok-centre.centre)} (search rules) (sym c.in_ok-centre.was ∙ c.centred.ensures)
