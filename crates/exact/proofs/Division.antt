@@ -1,5 +1,5 @@
 -- One over a fraction that is not 0.
-use Rattle.std.proofs.Common.{◌≡◌, ℕ, zero, suc, ◌<◌, ◌≢◌, [], ◌∷◌, ℤ, pos, negsuc, ◌*ℤ◌, ◌<ℤ◌, Some, None, refl, ap, arith}
+use Rattle.std.proofs.Common.{◌≡◌, ℕ, zero, suc, ◌<◌, ◌≢◌, [], ◌∷◌, ℤ, pos, negsuc, ◌*ℤ◌, ◌<ℤ◌, Some, refl, arith}
 use borrow.Author.Differences.{ints}
 use Rattle.exact.specs.Fraction.{Frac, ratio, whole, ◌*F◌, ◌≈◌, ◌≤F◌, ◌<F◌, Nonzero, inv_F, over_top, unless_nought, inverse}
 use Rattle.exact.proofs.Ring.{num, ◌⊖◌, ◌⊗◌, ⊝◌, combine, x0, x1, x2, x3}
@@ -26,10 +26,6 @@ there (negsuc k) y n = refl
 
 pub inverse_some : (x : Frac) → Nonzero x → inverse x ≡ Some (inv_F x)
 inverse_some x n = there x.top (inv_F x) (nonzero_top n)
-
-pub inverse_none : (x : Frac) → x ≈ 0F → inverse x ≡ None
-unfolding whole
-inverse_none x e = let k : x.top *ℤ pos 1 ≡ pos 0 *ℤ pos x.bot = e.cross in let z : x.top ≡ pos 0 = omega (arith, ints) in ap (λ t. unless_nought t (inv_F x)) z
 
 pub inv_ok : (v : Frac) → Nonzero v → (v *F inv_F v) ≈ whole (pos 1)
 unfolding inv_F

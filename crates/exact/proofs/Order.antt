@@ -113,10 +113,3 @@ le_F_true x y h = go (le_F x y) refl
     go : (t : Bool) → le_F x y ≡ t → t ≡ true
     go true e = refl
     go false e = absurd (lt_not_le (le_F_no x y e) h)
-
-pub le_F_false : (x y : Frac) → y <F x → le_F x y ≡ false
-le_F_false x y h = go (le_F x y) refl
-  where
-    go : (t : Bool) → le_F x y ≡ t → t ≡ false
-    go true e = absurd (lt_not_le h (le_F_yes x y e))
-    go false e = refl

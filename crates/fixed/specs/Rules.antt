@@ -1,5 +1,5 @@
 -- The fixed kind's grid is lawful, so it keeps the rules.
-use Rattle.std.specs.Prelude.{◌≡◌, Bool, true, false, ◌&&◌, T, ℤ, ◌≤ℤ◌, Some, None, refl}
+use Rattle.std.specs.Prelude.{◌≡◌, Bool, true, false, ◌&&◌, T, ℤ, ◌≤ℤ◌, Some, refl}
 use Rattle.std.proofs.Common.{sym, ap, ◌∙◌, subst, arith}
 use mathlib.Core.HLevel.{is_prop→PathP}
 use Rattle.std.proofs.lemmas.Int.{ints}
@@ -33,13 +33,6 @@ at_mark n false h t = absurd t
 pub mark_some : (n : ℤ) (f : Fixed) → f.count ≡ n → Some f ≡ mark_of n
 mark_some n f e = let p = at_mark n (count? n) (count_yes n) (yes_count n (subst Count e f.fits)) in
     ap Some (same_mark f p.0 (e ∙ sym p.2)) ∙ sym p.1
-
-pub mark_none : (n : ℤ) → (Count n → ⊥) → None ≡ mark_of n
-mark_none n k = go (count? n) (count_yes n)
-  where
-    go : (b : Bool) (h : T b → Count n) → None ≡ mark_if n b h
-    go true h = absurd (k (h tt))
-    go false h = refl
 
 near : (n : ℤ) → Count n → Nearest fixed_grid n
 near n h = let p = at_mark n (count? n) (count_yes n) (yes_count n h) in

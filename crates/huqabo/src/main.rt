@@ -3,38 +3,61 @@
 
 mod replay;
 mod stop;
+#[cfg(test)]
+mod tests;
 mod windows;
 
-use std::env;
+use script::Problem;
+use std::alloc::Global;
+use std::env::{self, Args};
+use std::io::{self, ErrorKind};
+use std::iter::Skip;
 use std::process::ExitCode;
-use stop::Stop;
+use stop::{Stop, USAGE, misused};
 
-const USAGE: &str = "\
-huqabo replay [FILE]            answers calls, one a line, from FILE or standard input
-huqabo windows FORMULA [KIND]   reports the formula of FORMULA, in hexadecimal, for each window of standard input
+// Arguments that cannot be had.
+fn unknown(heap: Global, error: io::Error) -> Stop {
+    match error.kind() {
+        ErrorKind::InvalidData => misused(heap, "an argument cannot be read as text"),
+        _ => Stop::Memory,
+    }
+}
 
-A window is a line of counts: the lower and the upper end of each channel in turn. KIND is fixed or sliding.
-Calls: kind, lend, open, add, strike, read, write, report, record, working, spare. See docs/PROGRAM.md.";
+// No word may be left.
+fn end(heap: Global, words: &mut Skip<Args>) -> Result<(), Stop> {
+    match words.next() {
+        Some(word) => Err(misused(heap, Problem::Surplus.of(word.as_str()))),
+        None => Ok(()),
+    }
+}
 
 fn run(rt: &HostRuntime) -> Result<(), Stop> {
-    let mut words = env::args(rt)?.skip(1);
+    let heap = rt.alloc();
+    let mut words = env::args(rt).map_err(|error| unknown(heap, error))?.skip(1);
     let Some(command) = words.next() else {
         return Ok(rt.println(USAGE)?);
     };
     match command.as_str() {
-        "replay" => replay::replay(rt, words.next()),
-        "windows" => windows::windows(rt, words.next(), words.next()),
-        _ => {
-            rt.println(USAGE)?;
-            Err(Stop::Said)
+        "replay" => {
+            let file = words.next();
+            end(heap, &mut words)?;
+            replay::replay(rt, file)
         }
+        "windows" => {
+            let formula = words.next();
+            let kind = words.next();
+            end(heap, &mut words)?;
+            windows::windows(rt, formula, kind)
+        }
+        word => Err(Stop::Arguments(format!(in heap; "'{word}' is no command")?)),
     }
 }
 
-// An error ends the program with status 1; what is to be said of it was said where it was met.
+// What ends the program early is said to standard error. (If that fails too, the status alone says it.)
 fn main(rt: HostRuntime) -> ExitCode {
-    match run(&rt) {
-        Ok(()) => ExitCode::SUCCESS,
-        Err(_) => ExitCode::FAILURE,
-    }
+    let Err(stop) = run(&rt) else {
+        return ExitCode::SUCCESS;
+    };
+    let _ = eprintln!(rt; "huqabo: {stop}");
+    ExitCode::FAILURE
 }

@@ -1,29 +1,30 @@
 // The windows of a station: the last line of a formula is reported for each.
-use crate::stop::{Stop, slipped, unread};
+use crate::stop::{Place, Stop, misused, slipped, unopened, unread};
 use desk::{Refused, Station};
 use report::Report;
 use script::{KindName, Problem, append_bytes, counts_of};
+use std::alloc::Global;
 use std::io::{BufRead, BufReader};
 use std::{fmt, fs};
 
 // The formula of a file with bytes in hexadecimal. Lines that begin with # are passed over.
-fn formula_of(rt: &HostRuntime, file: &str) -> Result<Vec<u8>, Stop> {
-    let text = fs::read_to_string(rt, file).map_err(|_| unread(rt, file))?;
-    let mut bytes = Vec::new(rt.alloc());
-    for (line, digits) in (1u64..).zip(text.lines()) {
-        if !digits.starts_with("#") {
-            append_bytes(&mut bytes, digits).map_err(|slip| slipped(rt, line, slip))?;
+pub fn formula_of<R: BufRead + Drop>(heap: Global, name: &str, file: R) -> Result<Vec<u8>, Stop> {
+    let mut bytes = Vec::new(heap);
+    for (line, text) in (1u64..).zip(file.lines(heap)) {
+        let place = Place::Formula(line, name);
+        let text = text.map_err(|error| unread(heap, place, error))?;
+        if !text.as_str().starts_with("#") {
+            append_bytes(&mut bytes, text.as_str()).map_err(|slip| slipped(heap, place, slip))?;
         }
     }
     Ok(bytes)
 }
 
-// The arguments are line 0 of what may be wrong.
-fn kind_of(rt: &HostRuntime, name: Option<String>) -> Result<KindName, Stop> {
+fn kind_of(heap: Global, name: Option<String>) -> Result<KindName, Stop> {
     let Some(word) = name else {
         return Ok(KindName::Fixed);
     };
-    word.as_str().parse().map_err(|problem: Problem| slipped(rt, 0, problem.of(word.as_str())))
+    word.as_str().parse().map_err(|problem: Problem| misused(heap, problem.of(word.as_str())))
 }
 
 // What became of the windows.
@@ -61,7 +62,8 @@ fn step(
     number: u64,
     text: &str,
 ) -> Result<Result<Report, Refused>, Stop> {
-    let counts = counts_of(rt.alloc(), text).map_err(|slip| slipped(rt, number, slip))?;
+    let heap = rt.alloc();
+    let counts = counts_of(heap, text).map_err(|slip| slipped(heap, Place::Line(number), slip))?;
     let outcome = station.window(formula, counts.lower.as_slice(), counts.upper.as_slice());
     match outcome {
         Ok(report) => println!(rt; "window {number}: {report}")?,
@@ -70,23 +72,38 @@ fn step(
     Ok(outcome)
 }
 
-pub fn windows(
+// Reports the formula for the window of each line.
+pub fn steps<R: BufRead + Drop>(
     rt: &HostRuntime,
-    formula: Option<String>,
-    kind: Option<String>,
+    kind: KindName,
+    formula: &[u8],
+    windows: R,
 ) -> Result<(), Stop> {
-    let file = formula.ok_or_else(|| slipped(rt, 0, Problem::Missing.of("windows")))?;
-    let kind = kind_of(rt, kind)?;
-    let formula = formula_of(rt, file.as_str())?;
+    let heap = rt.alloc();
     let mut station = Station::blank(kind);
     let mut tally = Tally {
         reported: 0,
         refused: 0,
     };
-    let lines = BufReader::new(rt.alloc(), rt.stdin())?.lines(rt.alloc());
-    for (number, text) in (1u64..).zip(lines) {
-        tally.count(step(rt, &mut station, formula.as_slice(), number, text?.as_str())?);
+    for (number, text) in (1u64..).zip(windows.lines(heap)) {
+        let text = text.map_err(|error| unread(heap, Place::Line(number), error))?;
+        tally.count(step(rt, &mut station, formula, number, text.as_str())?);
     }
     println!(rt; "{tally}")?;
     Ok(())
+}
+
+pub fn windows(
+    rt: &HostRuntime,
+    formula: Option<String>,
+    kind: Option<String>,
+) -> Result<(), Stop> {
+    let heap = rt.alloc();
+    let name = formula.ok_or_else(|| misused(heap, Problem::Missing.of("windows")))?;
+    let kind = kind_of(heap, kind)?;
+    let file = fs::open(rt, name.as_str()).map_err(|error| unopened(heap, name.as_str(), error))?;
+    let file = BufReader::new(heap, file).map_err(|_| Stop::Memory)?;
+    let formula = formula_of(heap, name.as_str(), file)?;
+    let windows = BufReader::new(heap, rt.stdin()).map_err(|_| Stop::Memory)?;
+    steps(rt, kind, formula.as_slice(), windows)
 }

@@ -140,9 +140,3 @@ module _ {K : Type 0} (g : Grid K) (l : Lawful g) where
   pub above_of : (n n' : ℤ) (d : ℕ) (h : 0 < d) (r : Option K) → n' ≡ neg_ℤ n → r ≡ grid_below g (units_over g n' d h) → mirrored g r ≡ grid_above g (units_over g n d h)
   unfolding grid_above units_over neg_F
   above_of n n' d h r e p = ap (mirrored g) (p ∙ ap (λ (z : ℤ). grid_below g (units_over g z d h)) e)
-
-  pub above_none : (n n' : ℤ) (d : ℕ) (h : 0 < d) → n' ≡ neg_ℤ n → None ≡ grid_below g (units_over g n' d h) → None ≡ grid_above g (units_over g n d h)
-  above_none n n' d h e p = above_of n n' d h None e p
-
-  pub above_some : (n n' : ℤ) (d : ℕ) (h : 0 < d) (k k' : K) → n' ≡ neg_ℤ n → g.size k' ≡ neg_ℤ (g.size k) → Some k ≡ grid_below g (units_over g n' d h) → Some k' ≡ grid_above g (units_over g n d h)
-  above_some n n' d h k k' e f p = ap Some (l.distinct k' (g.minus k) (f ∙ sym (l.minus_is k))) ∙ above_of n n' d h (Some k) e p

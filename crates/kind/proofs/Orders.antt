@@ -2,7 +2,7 @@
 use Rattle.std.proofs.Common.{◌≡◌, Some, None, Option, refl, ap, subst}
 use Rattle.exact.specs.Fraction.{Frac, ◌≈◌}
 use Rattle.exact.proofs.Fractions.{≈_sym, neg_neg}
-use Rattle.exact.proofs.Order.{≤F_trans, ≤F_of_≈, ≤F_antisym, neg_mono, neg_left}
+use Rattle.exact.proofs.Order.{≤F_trans, ≤F_of_≈, ≤F_antisym, neg_mono}
 use Rattle.kind.specs.Model.{Model, Rules, Inside, Down, Up}
 use Rattle.kind.specs.Rounding.{Orderly}
 
@@ -55,9 +55,3 @@ module _ {K : Type 0} (m : Model K) where
     -- a mark lies from −T to T
     pub mark_inside : (a : K) → Inside m (m.value a)
     mark_inside a = (≤F_trans (neg_mono (≤F_trans (≤F_of_≈ (≈_sym (r.opposite_is a))) (r.greatest (m.opposite a)))) (≤F_of_≈ (neg_neg _)), r.greatest a)
-
-    -- the negative of the negative of a mark is the mark
-    pub opposite_twice : (a : K) → m.opposite (m.opposite a) ≡ a
-    opposite_twice a = r.distinct _ _ (≤F_antisym
-        (≤F_trans (≤F_of_≈ (r.opposite_is _)) (neg_left (≤F_of_≈ (≈_sym (r.opposite_is a)))))
-        (≤F_trans (≤F_of_≈ (≈_sym (neg_neg _))) (≤F_trans (neg_mono (≤F_of_≈ (r.opposite_is a))) (≤F_of_≈ (≈_sym (r.opposite_is _))))))

@@ -101,7 +101,7 @@ impl NumberKind for Sign {
         Sign::Plus
     }
 
-    #[tactic(auto, using(crate::specs::Signs::in_order))]
+    #[tactic(auto, using(crate::proofs::Computed::in_order))]
     fn at_most(self, other: Sign) -> bool {
         self <= other
     }

@@ -1,5 +1,5 @@
 -- The operations of the sliding kind as ratios in 64 bits.
-use Rattle.std.proofs.Common.{◌≡◌, ℕ, zero, suc, ◌+◌, ◌-◌, ◌*◌, ◌%◌, ◌^◌, ◌<◌, ◌≤◌, [], ◌∷◌, ℤ, pos, negsuc, ◌+ℤ◌, ◌-ℤ◌, ◌*ℤ◌, neg_ℤ, nat_abs, ◌≤ℤ◌, sym, refl, ap, ◌∙◌, subst, ap₂, mul_comm, mul-le-mul, mul-pos, arith, lit<, pow_pos, pow-add, shl_exact, w32, w64, SFits, to_z, of_z}
+use Rattle.std.proofs.Common.{◌≡◌, ℕ, zero, suc, ◌+◌, ◌-◌, ◌*◌, ◌%◌, ◌^◌, ◌<◌, ◌≤◌, [], ◌∷◌, ℤ, pos, negsuc, ◌-ℤ◌, ◌*ℤ◌, neg_ℤ, nat_abs, ◌≤ℤ◌, sym, refl, ap, ◌∙◌, subst, ap₂, mul_comm, mul-le-mul, mul-pos, arith, lit<, pow_pos, pow-add, shl_exact, w32, w64, SFits, to_z, of_z}
 use borrow.Author.Differences.{ints}
 use lib.Signed.{le_z, mag, shr_z}
 use Rattle.std.proofs.lemmas.Int.{to_z-of_z}
@@ -8,7 +8,7 @@ use Rattle.exact.proofs.Floors.{floor_between, floor_low, floor_next}
 use Rattle.exact.proofs.Integers.{leZ_times, ring}
 use Rattle.exact.proofs.Ring.{◌⊗◌, num, x0, x1, x2, x3, x4}
 use Rattle.exact.specs.Floor.{ceiling, floor}
-use Rattle.exact.specs.Fraction.{◌≈◌, le_F, neg_F, ratio, whole}
+use Rattle.exact.specs.Fraction.{◌≈◌, le_F, neg_F, ratio}
 use Rattle.kind.proofs.GridOps.{product_above_is, product_below_is, quotient_above_neg, quotient_above_pos, quotient_below_neg, quotient_below_pos}
 use Rattle.kind.proofs.Orders.{above_cong, below_cong}
 use Rattle.kind.proofs.Plain.{plain32, plain_product, plain_wide, product_bound}
@@ -18,7 +18,7 @@ use Rattle.sliding.proofs.Rounds.{negate_shifted}
 use Rattle.sliding.specs.Rules.{sliding_lawful, sliding_rules}
 use Rattle.sliding.proofs.Scales.{plain_shr}
 use Rattle.sliding.specs.Slides.{shifted_add, shifted_bound}
-use Rattle.sliding.specs.Cut.{Held, Stands, shifted}
+use Rattle.sliding.specs.Cut.{Stands, shifted}
 use Rattle.sliding.specs.Form.{Normal}
 use Rattle.sliding.specs.Grid.{sliding_grid, sliding_model}
 use Rattle.sliding.specs.declared.mark.Sliding.{Sliding}
@@ -138,14 +138,6 @@ quotient_lifted m n a by s d t u g v l p q r w h k = let b = shifted_bound m u 3
         let c = p.2 (omega arith) in let b = abs_times m (pos (2 ^ 38)) in subst (λ (y : ℤ). 8388608 * by ≤ nat_abs y) (sym f) (omega arith)
 
 -- ---- the rest
-pub at_value : (v z : ℤ) → v ≡ z *ℤ pos 16777216 → ratio v 16777216 (lit< tt) ≈ whole z
-unfolding whole
-at_value v z e = record { cross = omega (arith, ints) }
-
-pub negate_value : (v k : ℤ) → k ≡ neg_ℤ v → ratio k 16777216 (lit< tt) ≈ neg_F (ratio v 16777216 (lit< tt))
-unfolding neg_F
-negate_value v k e = record { cross = ap (λ (z : ℤ). z *ℤ pos 16777216) e }
-
 pub le_value : (v w : ℤ) → le_F (ratio v 16777216 (lit< tt)) (ratio w 16777216 (lit< tt)) ≡ le_z v w
 unfolding le_F
 le_value v w = leZ_times v w 16777216 (lit< tt)
@@ -172,15 +164,6 @@ plain_scaled r m s p f e = to_z-of_z w64 r (record { sfits = f }) ∙ e ∙ ap (
 
 pub scaled_bound : (r m : ℤ) (s : ℕ) → nat_abs m ≤ 16777215 → mag r < 2 ^ 63 → r ≡ shifted (to_z w32 (of_z w32 m)) s → s ≤ 32 → nat_abs (to_z w64 (of_z w64 r)) ≤ 2 ^ 56
 scaled_bound r m s p f e q = let b = shifted_bound m s 32 16777215 p q in rw (plain_scaled r m s p f e) (omega arith)
-
-pub sum_fits : (x y v w : ℤ) → x ≡ v → y ≡ w → nat_abs v ≤ 2 ^ 56 → nat_abs w ≤ 2 ^ 56 → SFits w64 (x +ℤ y)
-sum_fits x y v w e f p q = rw (e, f) (omega (arith, ints))
-
-pub sum_plain : (x y v w : ℤ) → x ≡ v → y ≡ w → nat_abs v ≤ 2 ^ 56 → nat_abs w ≤ 2 ^ 56 → to_z w64 (of_z w64 (x +ℤ y)) ≡ v +ℤ w
-sum_plain x y v w e f p q = to_z-of_z w64 (x +ℤ y) (sum_fits x y v w e f p q) ∙ ap₂ ◌+ℤ◌ e f
-
-pub sum_held : (x y v w : ℤ) → x ≡ v → y ≡ w → nat_abs v ≤ 2 ^ 56 → nat_abs w ≤ 2 ^ 56 → Held (to_z w64 (of_z w64 (x +ℤ y))) 1 0
-sum_held x y v w e f p q = record { positive = lit< tt; bound = rw (sum_plain x y v w e f p q) (omega (arith, ints)); wide = λ z. omega arith; short = omega arith }
 
 pub zero_shift : (n k : ℤ) → n ≡ k → shifted n 0 *ℤ pos 1 ≡ k *ℤ pos 1
 zero_shift n k e = ap (λ (z : ℤ). shifted z 0 *ℤ pos 1) e ∙ ring (k ∷ []) (x0 ⊗ num (pos 1) ⊗ num (pos 1)) (x0 ⊗ num (pos 1)) refl

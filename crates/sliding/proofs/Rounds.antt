@@ -8,7 +8,7 @@ use Rattle.exact.proofs.Floors.{floor_greatest, floor_low}
 use Rattle.exact.proofs.Integers.{ring, ≤ℤ_cancel, ≤ℤ_times, ≤ℤ_trans}
 use Rattle.exact.proofs.Ring.{◌⊗◌, x0, x1, x2, ⊝◌}
 use Rattle.kind.proofs.GridRules.{ratio_none_over, ratio_none_under, ratio_some}
-use Rattle.kind.proofs.Plain.{plain32, plain_floor}
+use Rattle.kind.proofs.Plain.{plain32}
 use Rattle.kind.specs.Grid.{grid_below, units_over}
 use Rattle.sliding.specs.Rules.{sliding_lawful}
 use Rattle.sliding.specs.Slides.{full, settled, shifted_add, shifted_bound, shifted_suc}
@@ -98,9 +98,6 @@ pub small_size : (m : ℤ) (s : ℕ) → m <ℤ pos 16777215 → s ≡ 32 → sh
 small_size m s a b = rw b (omega (arith, ints))
 
 -- ---- what the code has at hand
-pub settles_at : (n r m : ℤ) (d u : ℕ) → SFits w64 n → SFits w64 r → d < 2 ^ 63 → r ≡ int_div_euclid (to_z w64 (of_z w64 n)) (to_z w64 d) → Settles (to_z w64 (of_z w64 r)) m u → Settles (int_div_euclid n (pos d)) m u
-settles_at n r m d u f g h e s = subst (λ (z : ℤ). Settles z m u) (to_z-of_z w64 r g ∙ plain_floor n r d f h e) s
-
 pub settles_here : (n k m : ℤ) (d u : ℕ) → SFits w64 k → k ≡ int_div_euclid n (pos d) → Settles (to_z w64 (of_z w64 k)) m u → Settles (int_div_euclid n (pos d)) m u
 settles_here n k m d u f e s = subst (λ (z : ℤ). Settles z m u) (to_z-of_z w64 k f ∙ e) s
 

@@ -17,13 +17,6 @@ stored_some a m s e f = go (normal? m s) (normal_yes m s) (yes_normal m s (subst
     go true h t = ap Some (same_mark a (mark m s (h tt)) e f)
     go false h t = absurd t
 
-pub stored_none : (m : ℤ) (s : ℕ) → (Normal m s → ⊥) → None ≡ stored_as m s
-stored_none m s k = go (normal? m s) (normal_yes m s)
-  where
-    go : (b : Bool) (h : T b → Normal m s) → None ≡ first m s b h None
-    go true h = absurd (k (h tt))
-    go false h = refl
-
 held : (m : ℤ) (s : ℕ) → nat_abs m ≤ 16777215 → s ≤ 32 → (a : Sliding) × (shifted a.mantissa a.scale ≡ shifted m s)
 held m s p q =
     let b = shifted_bound m s 32 16777215 p q in

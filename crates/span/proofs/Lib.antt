@@ -7,3 +7,4 @@ pub mod Unique
 pub mod Enclosing
 pub mod Nested
 pub mod Lawful
+pub mod Agreed

@@ -13,7 +13,7 @@ use Rattle.span.proofs.SumNarrow.{counts_narrow, difference_narrow, sum_narrow}
 use Rattle.span.proofs.Unique.{narrower}
 use Rattle.span.specs.Laws.{Counts, One, Two}
 use Rattle.span.specs.Narrowest.{Held, Inner, Narrowest, Ordered, Within}
-use Rattle.span.specs.Spans.{difference, greater, greater_mark, hull, lesser, lesser_mark, magnitude, of_counts, product, quotient, square, sum}
+use Rattle.span.specs.Spans.{difference, greater, greater_mark, hull, lesser, lesser_mark, magnitude, meet, of_counts, product, quotient, square, sum}
 use Rattle.span.specs.declared.span.Span.{Span}
 
 module _ {K : Type 0} (m : Model K) where
@@ -83,3 +83,6 @@ module _ {K : Type 0} (m : Model K) where
 
   pub right_in_hull : (s t t' : Span K) → Within m t' t → Within m t' (hull m s t)
   right_in_hull s t t' q = record { low = ≤F_trans (lesser_right m _ _) q.low; high = ≤F_trans q.high (greater_right m _ _) }
+
+  pub meet_nested : (s t s' t' : Span K) → Within m s' s → Within m t' t → Within m (meet m s' t') (meet m s t)
+  meet_nested s t s' t' p q = record { low = greater_mono _ _ _ _ p.low q.low; high = lesser_mono _ _ _ _ p.high q.high }

@@ -1,6 +1,7 @@
 // Spans of marks: each operation answers the narrowest span over all exact results, for every number kind.
 #![tactic(auto)]
 
+mod agreement;
 mod curves;
 mod ends;
 mod hulls;
@@ -9,4 +10,5 @@ mod quotients;
 mod span;
 mod sums;
 
+pub use agreement::operations;
 pub use span::Span;

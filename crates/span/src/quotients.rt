@@ -7,7 +7,8 @@ use crate::ends::{from_zero, to_zero};
 use crate::span::{Span, ends};
 use kind::NumberKind;
 
-// a / b rounded down, to c / d rounded up (a line, as for products: the operation as a closure would be longer)
+// a / b rounded down, to c / d rounded up. (One line by `ends`. Products have their own `corners`: one function
+// for both, with the operation as a closure, would be longer.)
 fn ratios<K: NumberKind>(a: K, b: K, c: K, d: K) -> Option<Span<K>>
     ensures { result ≡ spans.ratios K.NumberKind.model a b c d }
 {

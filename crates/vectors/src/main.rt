@@ -61,8 +61,9 @@ fn run(rt: &HostRuntime, name: &str) -> anyhow::Result<()> {
 }
 
 // Each has its answers beside it.
-const SCRIPTS: [&str; 7] = [
+const SCRIPTS: [&str; 8] = [
     "trials",
+    "edges",
     "calls-101",
     "calls-102",
     "calls-103",

@@ -1,6 +1,6 @@
 use Rattle.std.proofs.Common.{arith}
 use borrow.Author.Differences.{ints}
-use Rattle.odd.specs.Signs.{ceiling_is, floor_is, small}
+use Rattle.odd.proofs.Computed.{ceiling_is, floor_is, small}
 use Rattle.odd.proofs.arithmetic.counts.Goals as goal
 
 pub overflow_mul-result : goal.overflow_mul-result

@@ -1,4 +1,4 @@
-use Rattle.odd.specs.Signs.{product_minus_above, product_minus_below, product_nought_above, product_nought_below, product_plus_above, product_plus_below}
+use Rattle.odd.proofs.Computed.{product_minus_above, product_minus_below, product_nought_above, product_nought_below, product_plus_above, product_plus_below}
 use Rattle.odd.proofs.arithmetic.product.Goals as goal
 
 pub returns-in-Minus : goal.returns-in-Minus

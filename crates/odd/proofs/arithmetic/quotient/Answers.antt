@@ -1,4 +1,4 @@
-use Rattle.odd.specs.Signs.{quotient_minus_above, quotient_minus_below, quotient_plus_above, quotient_plus_below}
+use Rattle.odd.proofs.Computed.{quotient_minus_above, quotient_minus_below, quotient_plus_above, quotient_plus_below}
 use Rattle.odd.proofs.arithmetic.quotient.Goals as goal
 
 pub returns-in-Minus : goal.returns-in-Minus

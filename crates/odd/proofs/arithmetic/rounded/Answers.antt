@@ -2,7 +2,7 @@ use Rattle.std.proofs.Common.{pos, ◌∙◌, arith}
 use borrow.Author.Differences.{ints}
 use Rattle.std.specs.Int.{int_div_euclid}
 use Rattle.kind.proofs.Plain.{plain_floor}
-use Rattle.odd.specs.Signs.{at_sign, count_beyond, count_inside}
+use Rattle.odd.proofs.Computed.{at_sign, count_beyond, count_inside}
 use Rattle.odd.proofs.arithmetic.rounded.Goals as goal
 
 pub returns-then-unsigned_abs-gt65536 : goal.returns-then-unsigned_abs-gt65536

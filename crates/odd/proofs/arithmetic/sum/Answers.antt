@@ -1,7 +1,7 @@
 use Rattle.std.proofs.Common.{◌+ℤ◌, ◌∙◌, arith}
 use borrow.Author.Differences.{ints}
 use Rattle.odd.specs.Grid.{whole}
-use Rattle.odd.specs.Signs.{at_sign, small, sum_is_above, sum_is_below}
+use Rattle.odd.proofs.Computed.{at_sign, small, sum_is_above, sum_is_below}
 use Rattle.odd.proofs.arithmetic.sum.Goals as goal
 
 pub returns : goal.returns

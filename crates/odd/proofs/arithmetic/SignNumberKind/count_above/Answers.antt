@@ -2,7 +2,7 @@ use Rattle.std.proofs.Common.{◌≡◌, ◌∙◌, arith, rules}
 use borrow.Author.Differences.{ints}
 use Rattle.kind.specs.Grid.{mirrored}
 use Rattle.odd.specs.Grid.{sign_grid}
-use Rattle.odd.specs.Signs.{at_above}
+use Rattle.odd.proofs.Computed.{at_above}
 use Rattle.odd.proofs.arithmetic.SignNumberKind.count_above.Goals as goal
 
 pub returns : goal.returns
