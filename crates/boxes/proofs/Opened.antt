@@ -60,6 +60,10 @@ module _ (lower upper : List ℤ) (swept : ℕ) (centre : ℤ) where
     pub bad_channel : {e : Fault} → ranges 0 lower upper ≡ Err e → Err e ≡ opened lower upper swept centre
     bad_channel q = sym (opened_is ∙ ap judged q)
 
+    -- accepted ranges, and the ends of the swept channel
+    pub from_ends : ranges 0 lower upper ≡ Ok tt → {l u : ℤ} → slice_get lower swept ≡ Some l → slice_get upper swept ≡ Some u → opened lower upper swept centre ≡ about l u
+    from_ends q el eu = opened_is ∙ ap judged q ∙ ap₂ (λ o n. after (found NoChannel swept o) (λ l. after (found NoChannel swept n) (λ u. about l u))) el eu
+
     -- the ranges that were stored
     module _ (q : ranges 0 lower upper ≡ Ok tt) (rs : List Range) (el : lowers rs ≡ lower) (eu : uppers rs ≡ upper) where
       by_range : opened lower upper swept centre ≡ after (found NoChannel swept (slice_get rs swept)) (λ r. about r.lower r.upper)

@@ -1,11 +1,12 @@
 -- Open takes a proper box again.
-use Rattle.std.proofs.Common.{◌≡◌, ℕ, suc, Bool, true, false, T, List, [], ◌∷◌, ℤ, pos, neg_ℤ, ◌≤ℤ◌, Some, Ok, ◌&&◌, sym, refl, ap₂, arith}
+use Rattle.std.proofs.Common.{◌≡◌, ℕ, suc, Bool, true, false, T, List, [], ◌∷◌, ℤ, pos, neg_ℤ, ◌≤ℤ◌, Some, Ok, ◌&&◌, refl, ap, ◌∙◌, ap₂, arith}
 use lib.Signed.{le_z}
 use Rattle.std.proofs.lemmas.Option.{slice_get-get_or}
 use Rattle.std.proofs.lemmas.Int.{ints}
 use Rattle.std.specs.List.{slice_get}
+use Rattle.fault.specs.Refusals.{after}
 use Rattle.boxes.proofs.Accepted.{both_true, le_is}
-use Rattle.boxes.proofs.Opened.{opens}
+use Rattle.boxes.proofs.Opened.{from_ends}
 use Rattle.boxes.specs.Boxes.{Box, InOrder, Proper, centred, is_count, opened, range, ranges}
 
 holds : (b : Bool) → T b → b ≡ true
@@ -39,4 +40,5 @@ reopens b p =
     let eu = slice_get-get_or b.upper b.swept (pos 0) (omega (arith, p.swept, p.same)) in
     let r = p.ranges b.swept _ _ el eu in
     let i = p.centre _ _ el eu in
-    sym (opens b.lower b.upper b.swept b.centre (λ e. omega (arith, p.some, e)) p.few p.same (ranges_taken 0 b.lower b.upper p.ranges) el eu {x = b.centre} refl refl refl refl (sym (centred_taken b.swept r i.0 i.1)))
+    from_ends b.lower b.upper b.swept b.centre (λ e. omega (arith, p.some, e)) p.few p.same (ranges_taken 0 b.lower b.upper p.ranges) el eu
+    ∙ ap (λ r. after r (λ x. Ok (record { lower = b.lower; upper = b.upper; swept = b.swept; centre = x }))) (centred_taken b.swept r i.0 i.1)

@@ -6,3 +6,4 @@ pub mod Reported
 pub mod Made
 pub mod Trips
 pub mod Remaking
+pub mod Moved

@@ -12,6 +12,13 @@ use Rattle.slope.specs.declared.record.Record.{Record}
 use Rattle.sheet.specs.Contents.{Contents}
 use Rattle.sheet.specs.Reading.{Outcome, ends, goes_on, overlaid}
 
+-- the new box, if enough working and spare lines are lent
+abbrev pub new_box : Contents → ℕ → ℕ → ℕ → ℤ → ℤ → ℤ → Result Box Fault
+new_box s lent spare channel lower upper centre =
+    cond (nat_lt lent 64) (refused Lines 0)
+    (cond (nat_lt spare 64) (refused Lines 0)
+    (moved s.over channel lower upper centre))
+
 -- the sheet afterwards
 abbrev pub shifted : Contents → Result Box Fault → Result (Unit {0}) Fault → Contents
 shifted s (Ok b) (Ok _) = record { over = b; lines = s.lines }
@@ -29,15 +36,16 @@ module _ {K : Type 0} (m : Model K) where
   remade b [] done rs = ends (Ok tt) done rs
   remade b (l ∷ ls) done rs = goes_on (rule m b rs l) done rs (λ r. remade b ls (done ++ l ∷ []) (rs ++ r ∷ []))
 
-  -- so many working and spare lines are lent
-  abbrev pub move_onto : Contents → ℕ → ℕ → Result Box Fault → Outcome K
-  move_onto s lent spare over =
-      cond (nat_lt lent 64) (ends (refused Lines 0) [] [])
-      (cond (nat_lt spare 64) (ends (refused Lines 0) [] [])
-      (goes_on over [] [] (λ b. remade b s.lines [] [])))
+  -- what is made over the new box, if there is one
+  abbrev pub move_onto : Contents → Result Box Fault → Outcome K
+  move_onto s over = goes_on over [] [] (λ b. remade b s.lines [] [])
 
-  pub record Moved (channel : ℕ) (lower upper centre : ℤ) (s : Contents) (w p : List (Record K)) (r : Result (Unit {0}) Fault) (s' : Contents) (w' p' : List (Record K)) : Type 0 where
-    pub answer : r ≡ (move_onto s (length w) (length p) (moved s.over channel lower upper centre)).answer
-    pub sheet : s' ≡ shifted s (moved s.over channel lower upper centre) r
-    pub working : w' ≡ renewed r (move_onto s (length w) (length p) (moved s.over channel lower upper centre)).records w
-    pub spare : p' ≡ overlaid (move_onto s (length w) (length p) (moved s.over channel lower upper centre)).records p
+  -- a move to this box, or to none
+  pub record MovedTo (over : Result Box Fault) (s : Contents) (w p : List (Record K)) (r : Result (Unit {0}) Fault) (s' : Contents) (w' p' : List (Record K)) : Type 0 where
+    pub answer : r ≡ (move_onto s over).answer
+    pub sheet : s' ≡ shifted s over r
+    pub working : w' ≡ renewed r (move_onto s over).records w
+    pub spare : p' ≡ overlaid (move_onto s over).records p
+
+  abbrev pub Moved : ℕ → ℤ → ℤ → ℤ → Contents → List (Record K) → List (Record K) → Result (Unit {0}) Fault → Contents → List (Record K) → List (Record K) → Type 0
+  Moved channel lower upper centre s w p = MovedTo (new_box s (length w) (length p) channel lower upper centre) s w p

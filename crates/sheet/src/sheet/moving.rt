@@ -1,8 +1,9 @@
 // Moving a channel.
-ghost use Rattle.std.specs.Prelude.{◌≡◌, ◌≤◌, [], length, take};
-ghost use Rattle.boxes.specs.Stored.{box_of};
+ghost use Rattle.std.specs.Prelude.{◌≡◌, ◌≤◌, [], length, take, Ok};
+ghost use Rattle.boxes.specs.Stored.{box_of, boxed};
 ghost use Rattle.sheet.specs.Contents.{contents};
-ghost use Rattle.sheet.specs.Moving.{Moved, remade};
+ghost use Rattle.sheet.specs.Moving.{Moved, MovedTo, remade};
+ghost use Rattle.sheet.specs.Moving as moving;
 ghost use Rattle.sheet.specs.Reading.{overlaid};
 
 use crate::sheet::Sheet;
@@ -30,10 +31,45 @@ impl Sheet {
         ensures records { spare.new ≡ overlaid (remade K.NumberKind.model (box_of over.now) (contents self.now).lines [] []).records spare.old }
     {
         for n in 0..self.held {
-            let made = record_of(over, &spare[..n], self.lines[n])?;
+            let line = self.lines[n];
+            let made = record_of(over, &spare[..n], line)?;
             keep(spare, n, made);
         }
         Ok(())
+    }
+
+    // Makes all records anew over a box, which becomes the sheet's.
+    fn move_to<K: NumberKind>(
+        &mut self,
+        working: &mut [Record<K>],
+        spare: &mut [Record<K>],
+        over: ChannelBox,
+    ) -> Result<(), Fault>
+        requires working { 64 ≤ length working.old }
+        requires spare { 64 ≤ length spare.old }
+        ensures { MovedTo K.NumberKind.model (Ok (box_of over)) (contents self.old) working.old spare.old result (contents self.new) working.new spare.new }
+    {
+        self.remake(&over, spare)?;
+        copy(working, spare, self.held);
+        self.over = over;
+        Ok(())
+    }
+
+    // The new box, if enough working and spare lines are lent.
+    fn new_box<K: NumberKind>(
+        &self,
+        working: &[Record<K>],
+        spare: &[Record<K>],
+        channel: usize,
+        lower: i64,
+        upper: i64,
+        centre: i64,
+    ) -> Result<ChannelBox, Fault>
+        ensures { boxed result ≡ moving.new_box (contents self.now) (length working.now) (length spare.now) channel lower upper centre }
+    {
+        enough(working)?;
+        enough(spare)?;
+        self.over.moved(channel, lower, upper, centre)
     }
 
     // Gives a channel a new range, and the swept one a new centre, and makes all records anew. A refusal leaves the sheet and the working
@@ -49,12 +85,7 @@ impl Sheet {
     ) -> Result<(), Fault>
         ensures { Moved K.NumberKind.model channel lower upper centre (contents self.old) working.old spare.old result (contents self.new) working.new spare.new }
     {
-        enough(working)?;
-        enough(spare)?;
-        let over = self.over.moved(channel, lower, upper, centre)?;
-        self.remake(&over, spare)?;
-        copy(working, spare, self.held);
-        self.over = over;
-        Ok(())
+        let over = self.new_box(working, spare, channel, lower, upper, centre)?;
+        self.move_to(working, spare, over)
     }
 }
