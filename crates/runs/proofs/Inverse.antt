@@ -1,7 +1,8 @@
 -- What an accepted move and an accepted read tell of the records they made.
-use Rattle.std.proofs.Common.{◌≡◌, ◌==◌, ◌⊎◌, inl, inr, ℕ, zero, suc, ◌+◌, ◌≤◌, Bool, true, false, cond, nat_lt, List, [], ◌∷◌, ◌++◌, length, Ok, Err, Result, sym, refl, ap, ◌∙◌, subst, arith, length-append, append-nil}
-use Rattle.std.proofs.lemmas.Bool.{ltb-false}
+use Rattle.std.proofs.Common.{◌≡◌, ◌==◌, ℕ, zero, suc, ◌+◌, ◌<◌, ◌≤◌, Bool, true, false, cond, nat_lt, List, [], ◌∷◌, ◌++◌, length, ℤ, Ok, Err, Result, sym, refl, ap, ◌∙◌, subst, arith, length-append, append-nil}
+use Rattle.std.proofs.lemmas.Bool.{lt-ltb, ltb-false}
 use Rattle.boxes.specs.Boxes.{Box}
+use Rattle.boxes.specs.Moving.{moved}
 use Rattle.fault.proofs.Steps.{after_ok, err_ok, ok_is}
 use Rattle.fault.specs.Refusals.{after, refused}
 use Rattle.fault.specs.declared.fault.Cause.TheVariants.{Count, Lines, NotEmpty}
@@ -9,14 +10,15 @@ use Rattle.fault.specs.declared.fault.Fault.{Fault}
 use Rattle.kind.specs.Model.{Model}
 use Rattle.leb.specs.declared.place.Place.{Place}
 use Rattle.line.specs.declared.line.Line.{Line}
-use Rattle.reader.specs.Reading.{count_at, end_at, formula_at, line_at, number_at}
+use Rattle.leb.specs.Places.{number_at}
+use Rattle.reader.specs.Reading.{count_at, line_at}
 use Rattle.rule.specs.Records.{records, records_from}
 use Rattle.rule.specs.Rule.{rule}
 use Rattle.runs.proofs.Lists.{grow}
 use Rattle.runs.specs.Events.{given_of, lines_given}
 use Rattle.sheet.proofs.Trips.{formula_spells, goes_ok}
 use Rattle.sheet.specs.Contents.{Contents}
-use Rattle.sheet.specs.Moving.{move_onto, remade}
+use Rattle.sheet.specs.Moving.{move_onto, new_box, remade}
 use Rattle.sheet.specs.Reading.{Outcome, ends, goes_on, read_formula, read_lines, read_onto}
 use Rattle.slope.specs.declared.record.Record.{Record}
 
@@ -58,35 +60,41 @@ module _ {K : Type 0} (m : Model K) where
             let i = lines_ok p.0 bytes p.1.at [] o.lines [] o.records k refl in let j = i.1 in let few = some_lines bytes ep in (i.0, omega arith)) in
         (sym (ap given_of (formula_spells m b bytes o.lines o.records q)), c.0, c.1)
 
+  -- onto a sheet that holds no line, or some
+  abbrev onto : Contents → ℕ → Bool → Bool → List ℕ → Outcome K
+  onto s lent few some bytes = cond few (ends (refused Lines 0) [] []) (cond some (ends (refused NotEmpty 0) [] []) (read_formula m s.over bytes))
+
   -- an accepted read: the sheet held no line, and enough working lines were lent
   pub read_ok : (s : Contents) (lent : ℕ) (bytes : List ℕ) → (read_onto m s lent bytes).answer ≡ Ok tt → (s.lines ≡ []) × (64 ≤ lent) × (read_onto m s lent bytes ≡ read_formula m s.over bytes)
-  read_ok s lent bytes e = go (nat_lt lent 64) refl s.lines e
+  read_ok s lent bytes e = go (nat_lt lent 64) refl (nat_lt 0 (length s.lines)) refl e
     where
-      go : (t : Bool) → nat_lt lent 64 ≡ t → (ls : List Line) → (cond t (ends (refused Lines 0) [] []) (cond (nat_lt 0 (length ls)) (ends (refused NotEmpty 0) [] []) (read_formula m s.over bytes))).answer ≡ Ok tt
-          → (ls ≡ []) × (64 ≤ lent) × (cond t (ends (refused Lines 0) [] []) (cond (nat_lt 0 (length ls)) (ends (refused NotEmpty 0) [] []) (read_formula m s.over bytes)) ≡ read_formula m s.over bytes)
-      go true h ls q = absurd (err_ok q)
-      go false h [] q = (refl, ltb-false lent 64 h, refl)
-      go false h (l ∷ ls) q = absurd (err_ok q)
+      none : (ls : List Line) → nat_lt 0 (length ls) ≡ false → ls ≡ []
+      none [] h = refl
+      none (l ∷ ls) h = let k = ltb-false 0 (length (l ∷ ls)) h in absurd (omega arith)
 
-  -- a refused read leaves made records only where no line is held
-  pub read_err : (s : Contents) (lent : ℕ) (bytes : List ℕ) → ((s.lines ≡ []) ⊎ ((read_onto m s lent bytes).records ≡ []))
-  read_err s lent bytes = go (nat_lt lent 64) s.lines
-    where
-      go : (t : Bool) (ls : List Line) → (ls ≡ []) ⊎ ((cond t (ends (refused Lines 0) [] []) (cond (nat_lt 0 (length ls)) (ends (refused NotEmpty 0) [] []) (read_formula m s.over bytes))).records ≡ [])
-      go true ls = inr refl
-      go false [] = inl refl
-      go false (l ∷ ls) = inr refl
+      go : (t : Bool) → nat_lt lent 64 ≡ t → (u : Bool) → nat_lt 0 (length s.lines) ≡ u → (onto s lent t u bytes).answer ≡ Ok tt → (s.lines ≡ []) × (64 ≤ lent) × (onto s lent t u bytes ≡ read_formula m s.over bytes)
+      go true h u k q = absurd (err_ok q)
+      go false h true k q = absurd (err_ok q)
+      go false h false k q = (none s.lines k, ltb-false lent 64 h, refl)
 
-  -- an accepted move: enough lines were lent, the box has the new range, and all records are those of the rules
-  pub move_ok : (s : Contents) (lent spare : ℕ) (over : Result Box Fault) → (move_onto m s lent spare over).answer ≡ Ok tt
-      → (b : Box) × (over ≡ Ok b) × (64 ≤ lent) × (64 ≤ spare) × (records m b s.lines ≡ Ok (move_onto m s lent spare over).records)
-  move_ok s lent spare over e = go (nat_lt lent 64) refl (nat_lt spare 64) refl over e
+  -- a read leaves made records only where no line is held
+  pub read_made : (s : Contents) (lent : ℕ) (bytes : List ℕ) → 0 < length s.lines → (read_onto m s lent bytes).records ≡ []
+  read_made s lent bytes h = ap (λ u. (onto s lent (nat_lt lent 64) u bytes).records) (lt-ltb 0 (length s.lines) h) ∙ go (nat_lt lent 64)
     where
-      go : (t : Bool) → nat_lt lent 64 ≡ t → (u : Bool) → nat_lt spare 64 ≡ u → (over : Result Box Fault)
-          → (cond t (ends (refused Lines 0) [] []) (cond u (ends (refused Lines 0) [] []) (goes_on over [] [] (λ b. remade m b s.lines [] [])))).answer ≡ Ok tt
-          → (b : Box) × (over ≡ Ok b) × (64 ≤ lent) × (64 ≤ spare)
-          × (records m b s.lines ≡ Ok (cond t (ends (refused Lines 0) [] []) (cond u (ends (refused Lines 0) [] []) (goes_on over [] [] (λ b. remade m b s.lines [] [])))).records)
-      go true h u k over q = absurd (err_ok q)
-      go false h true k over q = absurd (err_ok q)
-      go false h false k (Err f) q = absurd (err_ok q)
-      go false h false k (Ok b) q = (b, refl, ltb-false lent 64 h, ltb-false spare 64 k, remade_ok b s.lines [] _ [] _ (accepted_is (remade m b s.lines [] []) q))
+      go : (t : Bool) → (onto s lent t true bytes).records ≡ []
+      go true = refl
+      go false = refl
+
+  -- an accepted move: there is a new box, and all records are those of the rules over it
+  pub move_ok : (s : Contents) (over : Result Box Fault) → (move_onto m s over).answer ≡ Ok tt → (b : Box) × (over ≡ Ok b) × (records m b s.lines ≡ Ok (move_onto m s over).records)
+  move_ok s (Err f) e = absurd (err_ok e)
+  move_ok s (Ok b) e = (b, refl, remade_ok b s.lines [] _ [] _ (accepted_is (remade m b s.lines [] []) e))
+
+-- a new box: the channel was moved
+pub new_ok : (s : Contents) (lent spare channel : ℕ) (lower upper centre : ℤ) {b : Box} → new_box s lent spare channel lower upper centre ≡ Ok b → moved s.over channel lower upper centre ≡ Ok b
+new_ok s lent spare channel lower upper centre {b} e = go (nat_lt lent 64) (nat_lt spare 64) e
+  where
+    go : (t u : Bool) → cond t (refused Lines 0) (cond u (refused Lines 0) (moved s.over channel lower upper centre)) ≡ Ok b → moved s.over channel lower upper centre ≡ Ok b
+    go true u q = absurd (err_ok q)
+    go false true q = absurd (err_ok q)
+    go false false q = q

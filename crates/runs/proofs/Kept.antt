@@ -4,7 +4,6 @@ use Rattle.std.proofs.lemmas.Bool.{ltb-false}
 use Rattle.std.proofs.lemmas.List.{take_more_set}
 use Rattle.boxes.proofs.Proper.{blank_proper, moved_is, moved_proper, opened_is, opened_proper}
 use Rattle.boxes.specs.Boxes.{Box, Proper, opened}
-use Rattle.boxes.specs.Moving.{moved}
 use Rattle.fault.proofs.Steps.{err_ok, ok_is}
 use Rattle.fault.specs.Refusals.{refused}
 use Rattle.fault.specs.declared.fault.Cause.TheVariants.{Full, Lines}
@@ -14,7 +13,7 @@ use Rattle.line.specs.declared.line.Line.{Line}
 use Rattle.rule.specs.Fit.{Judged, fit}
 use Rattle.rule.specs.Records.{records}
 use Rattle.rule.specs.Rule.{rule}
-use Rattle.runs.proofs.Inverse.{formula_ok, move_ok, read_err, read_ok}
+use Rattle.runs.proofs.Inverse.{formula_ok, move_ok, new_ok, read_err, read_ok}
 use Rattle.runs.proofs.Lists.{grow, lengths, shorten, take_front, take_shorter, take_within}
 use Rattle.runs.specs.Events.{History, box_after, held, lines_after, lines_given, present}
 use Rattle.runs.specs.Law.{sheet_of}
@@ -27,7 +26,7 @@ use Rattle.runs.specs.declared.call.Moving.{Moving}
 use Rattle.runs.specs.declared.call.Opening.{Opening}
 use Rattle.sheet.specs.Calls.{Added, Makes, Opened, Recorded, Struck, accepts, grown, next, numbered, reopened, shortened, stored, strikes}
 use Rattle.sheet.specs.Contents.{Contents}
-use Rattle.sheet.specs.Moving.{Moved, move_onto, renewed, shifted}
+use Rattle.sheet.specs.Moving.{Moved, new_box, renewed, shifted}
 use Rattle.sheet.specs.Reading.{Outcome, Read, filled, overlaid, read_formula, read_onto}
 use Rattle.slope.specs.declared.record.Record.{Record}
 
@@ -114,7 +113,7 @@ module _ {K : Type 0} (m : Model K) where
     moves v a r s w' p p' ea h = go r refl
       where
         M : Result Box Fault
-        M = moved b v.channel v.lower v.upper v.centre
+        M = new_box (sheet_of b ls) (length w) (length p) v.channel v.lower v.upper v.centre
 
         kept : (x : Result (Unit {0}) Fault) → r ≡ x → Kept (calls.Move v) (accepted x) b ls s (w' ++ rest) → Kept (calls.Move v) a b ls s (w' ++ rest)
         kept x e k = subst (λ a. Kept (calls.Move v) a b ls s (w' ++ rest)) (sym (ea ∙ ap accepted e)) k
@@ -129,14 +128,15 @@ module _ {K : Type 0} (m : Model K) where
           good = subst (λ u. Good b ls (u ++ rest)) (sym (h.working ∙ ap (λ x. renewed x _ w) e)) g;
         })
         go (Ok tt) e =
-            let k = move_ok m (sheet_of b ls) (length w) (length p) M (sym h.answer ∙ e) in
-            let is = moved_is b v.channel v.lower v.upper v.centre k.2.0 in
+            let k = move_ok m (sheet_of b ls) M (sym h.answer ∙ e) in
+            let q = new_ok (sheet_of b ls) (length w) (length p) v.channel v.lower v.upper v.centre k.1 in
+            let is = moved_is b v.channel v.lower v.upper v.centre q in
             kept (Ok tt) e (record {
-              sheet = h.sheet ∙ ap (shifted (sheet_of b ls) M) e ∙ ap (λ x. shifted (sheet_of b ls) x (Ok tt)) k.2.0 ∙ ap (λ x. sheet_of x ls) is;
+              sheet = h.sheet ∙ ap (shifted (sheet_of b ls) M) e ∙ ap (λ x. shifted (sheet_of b ls) x (Ok tt)) k.1 ∙ ap (λ x. sheet_of x ls) is;
               good = subst (λ x. Good x ls (w' ++ rest)) is (record {
-                proper = moved_proper b v.channel v.lower v.upper v.centre k.2.0 g.proper;
+                proper = moved_proper b v.channel v.lower v.upper v.centre q g.proper;
                 few = g.few;
-                ruled = k.2.2.2.1 ∙ ap Ok (sym (ap (λ u. take (length ls) (u ++ rest)) (h.working ∙ ap (λ x. renewed x _ w) e) ∙ front_is _ w rest (length ls) (lengths m k.1 [] ls _ k.2.2.2.1)));
+                ruled = k.2 ∙ ap Ok (sym (ap (λ u. take (length ls) (u ++ rest)) (h.working ∙ ap (λ x. renewed x _ w) e) ∙ front_is _ w rest (length ls) (lengths m k.0 [] ls _ k.2)));
               });
             })
 

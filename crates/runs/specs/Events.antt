@@ -11,12 +11,12 @@ use Rattle.runs.specs.declared.call.Call.TheVariants.{Add, Move, Open, Read, Rep
 use Rattle.runs.specs.declared.call.Moving.{Moving}
 use Rattle.runs.specs.declared.call.Opening.{Opening}
 
--- a call, how many working and spare lines and how many bytes to write to it was lent, and its answer
+-- a call, how many working and spare lines and which bytes to write to it was lent, and its answer
 pub record Event : Type 0 where
   pub call : Call
   pub working : ℕ
   pub spare : ℕ
-  pub room : ℕ
+  pub out : List ℕ
   pub answer : Result Answer Fault
 
 -- the newest first

@@ -2,7 +2,6 @@
 use Rattle.std.specs.Prelude.{◌≡◌, ℕ, ◌<◌, ◌≤◌, List, [], ◌∷◌, ◌++◌, length, take, Ok, Err, Some, Result}
 use Rattle.std.specs.List.{slice_get}
 use Rattle.boxes.specs.Boxes.{Box, opened}
-use Rattle.boxes.specs.Moving.{moved}
 use Rattle.exact.specs.Fraction.{Frac}
 use Rattle.fault.specs.Refusals.{after}
 use Rattle.fault.specs.declared.fault.Fault.{Fault}
@@ -20,7 +19,7 @@ use Rattle.runs.specs.declared.call.Call.{Call}
 use Rattle.runs.specs.declared.call.Call.TheVariants as calls
 use Rattle.sheet.specs.Calls.{Recorded, Written, accepts, next, numbered, report, strikes}
 use Rattle.sheet.specs.Contents.{Contents}
-use Rattle.sheet.specs.Moving.{move_onto}
+use Rattle.sheet.specs.Moving.{move_onto, new_box}
 use Rattle.sheet.specs.Reading.{Read, read_onto}
 use Rattle.slope.specs.declared.record.Record.{Record}
 use Rattle.writer.specs.Writing.{needed}
@@ -35,9 +34,9 @@ module _ {K : Type 0} (m : Model K) where
   due b ls e (calls.Open o) = accepted (accepts (opened o.lower.now o.upper.now o.swept o.centre))
   due b ls e (calls.Add line) = after (records m b ls) (λ rs. handed answers.Line (numbered (length ls) (next m (sheet_of b ls) e.working rs line)))
   due b ls e calls.Strike = accepted (strikes (sheet_of b ls))
-  due b ls e (calls.Move v) = accepted (move_onto m (sheet_of b ls) e.working e.spare (moved b v.channel v.lower v.upper v.centre)).answer
+  due b ls e (calls.Move v) = accepted (move_onto m (sheet_of b ls) (new_box (sheet_of b ls) e.working e.spare v.channel v.lower v.upper v.centre)).answer
   due b ls e (calls.Read bytes) = accepted (read_onto m (sheet_of b ls) e.working bytes.now).answer
-  due b ls e calls.Write = handed answers.Length (needed ls e.room)
+  due b ls e calls.Write = handed answers.Length (needed ls e.out)
   due b ls e (calls.Report line) = after (records m b ls) (λ rs. handed answers.Report (report m (sheet_of b ls) e.working rs line))
 
   -- a line's exact value at every point of the box is at most the reported margin away from the reported middle

@@ -64,7 +64,7 @@ module _ {K : Type 0} (m : Model K) where
     pub made : Made m from to e.answer e.call
     pub working : e.working ≡ length from.working
     pub spare : e.spare ≡ length from.spare
-    pub room : e.room ≡ length from.out
+    pub out : e.out ≡ from.out
     pub sheet : s ≡ to.sheet
     pub left : memory ≡ to.working ++ rest
 

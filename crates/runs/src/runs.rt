@@ -1,4 +1,6 @@
 // One call on a sheet, as the last one of a run.
+ghost use Rattle.runs.specs.Law.{RunsSound};
+
 use crate::call::{Answer, Call};
 use fault::Fault;
 use kind::NumberKind;
@@ -12,7 +14,9 @@ pub fn make<K: NumberKind>(
     spare: &mut [Record<K>],
     out: &mut [u8],
     call: Call<'_>,
-) -> Result<Answer, Fault> {
+) -> Result<Answer, Fault>
+    ensures law { RunsSound K.NumberKind.model }
+{
     match call {
         Call::Open(o) => sheet.open(o.lower, o.upper, o.swept, o.centre).map(|()| Answer::Accepted),
         Call::Add(line) => sheet.add(working, line).map(Answer::Line),

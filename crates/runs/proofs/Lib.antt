@@ -1,0 +1,4 @@
+pub mod Lists
+pub mod Inverse
+pub mod Good
+pub mod Kept
