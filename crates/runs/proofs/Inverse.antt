@@ -57,7 +57,7 @@ module _ {K : Type 0} (m : Model K) where
         let o = read_formula m b bytes in
         let q = accepted_is o e in
         let c = goes_ok m b ((records m b o.lines ≡ Ok o.records) × (length o.lines ≤ 64)) (count_at bytes) [] [] _ o.lines o.records q (λ p ep k.
-            let i = lines_ok p.0 bytes p.1.at [] o.lines [] o.records k refl in let j = i.1 in let few = some_lines bytes ep in (i.0, omega arith)) in
+        let i = lines_ok p.0 bytes p.1.at [] o.lines [] o.records k refl in let j = i.1 in let few = some_lines bytes ep in (i.0, omega arith)) in
         (sym (ap given_of (formula_spells m b bytes o.lines o.records q)), c.0, c.1)
 
   -- onto a sheet that holds no line, or some

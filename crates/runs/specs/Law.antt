@@ -12,7 +12,7 @@ use Rattle.report.specs.declared.answer.Report.{Report}
 use Rattle.rule.specs.Exact.{InBox, Point, value_of}
 use Rattle.rule.specs.Records.{Tells, records}
 use Rattle.runs.specs.Events.{Event, History, held, present}
-use Rattle.runs.specs.Runs.{Run, accepted, handed}
+use Rattle.runs.specs.Runs.{Run, State, accepted, handed}
 use Rattle.runs.specs.declared.call.Answer.{Answer}
 use Rattle.runs.specs.declared.call.Answer.TheVariants as answers
 use Rattle.runs.specs.declared.call.Call.{Call}
@@ -84,3 +84,7 @@ module _ {K : Type 0} (m : Model K) where
 
   abbrev pub RunsSound : Type 0
   RunsSound = (h : History) (s : Contents) (memory : List (Record K)) → Run m h s memory → Sound h s memory
+
+  -- this call goes on from every run that led to what it found, and what it leaves is sound
+  abbrev pub GoesOn : Event → State K → State K → Type 0
+  GoesOn e x y = (h : History) (rest : List (Record K)) → Run m h x.sheet (x.working ++ rest) → Run m (e ∷ h) y.sheet (y.working ++ rest) × Sound (e ∷ h) y.sheet (y.working ++ rest)

@@ -29,6 +29,13 @@ pub record State (K : Type 0) : Type 0 where
   pub spare : List (Record K)
   pub out : List ℕ
 
+abbrev pub state : {K : Type 0} → Contents → List (Record K) → List (Record K) → List ℕ → State K
+state s w p out = record { sheet = s; working = w; spare = p; out = out }
+
+-- the event of a call that finds this, and its answer
+abbrev pub event : {K : Type 0} → Call → State K → Result Answer Fault → Event
+event call x answer = record { call = call; working = length x.working; spare = length x.spare; out = x.out; answer = answer }
+
 module _ {K : Type 0} where
   abbrev pub SameWorking : State K → State K → Type 0
   SameWorking x y = y.working ≡ x.working

@@ -4,5 +4,5 @@
 mod call;
 mod runs;
 
-pub use call::{Answer, Call, Opening, Moving};
+pub use call::{Answer, Call, Moving, Opening};
 pub use runs::make;
