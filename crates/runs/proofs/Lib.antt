@@ -4,3 +4,4 @@ pub mod Good
 pub mod Kept
 pub mod Due
 pub mod Enclosing
+pub mod Called
