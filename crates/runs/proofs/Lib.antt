@@ -4,4 +4,7 @@ pub mod Good
 pub mod Kept
 pub mod Due
 pub mod Enclosing
+pub mod Fresh
+pub mod Again
 pub mod Called
+pub mod Soundness

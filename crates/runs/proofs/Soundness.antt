@@ -1,5 +1,5 @@
 -- The law over runs, put together.
-use Rattle.std.proofs.Common.{◌≡◌, List, [], ◌∷◌, ◌++◌, sym, refl, subst}
+use Rattle.std.proofs.Common.{◌≡◌, List, [], ◌∷◌, ◌++◌, Result, sym, refl, subst}
 use Rattle.kind.specs.Model.{Model, Rules}
 use Rattle.runs.proofs.Again.{again_is}
 use Rattle.runs.proofs.Due.{due_is}
@@ -8,7 +8,7 @@ use Rattle.runs.proofs.Fresh.{fresh_is}
 use Rattle.runs.proofs.Kept.{core}
 use Rattle.runs.specs.Events.{Event, History, held, present}
 use Rattle.runs.specs.Law.{Answers, GoesOn, RunsSound, Sound, sheet_of}
-use Rattle.runs.specs.Runs.{Made, Run, State, event}
+use Rattle.runs.specs.Runs.{Goes, Made, Run, State, event}
 use Rattle.runs.specs.declared.call.Answer.{Answer}
 use Rattle.runs.specs.declared.call.Call.{Call}
 use Rattle.fault.specs.declared.fault.Fault.{Fault}
@@ -42,5 +42,5 @@ module _ {K : Type 0} (m : Model K) (keeps : Rules m) where
   -- a call that was made goes on from every run
   pub goes_on : (c : Call) (x y : State K) (a : Result Answer Fault) → Made m x y a c → GoesOn m (event c x a) x y
   goes_on c x y a h t rest r =
-      let more = record { from = x; to = y; rest = rest; before = r; made = h; working = refl; spare = refl; out = refl; sheet = refl; left = refl } in
+      let more : Goes m (event c x a) (Run m t) y.sheet (y.working ++ rest) = record { from = x; to = y; rest = rest; before = r; made = h; working = refl; spare = refl; out = refl; sheet = refl; left = refl } in
       (more, runs_sound (event c x a ∷ t) y.sheet (y.working ++ rest) more)

@@ -2,7 +2,8 @@
 ghost use Rattle.std.specs.Prelude.{◌≡◌};
 ghost use Rattle.sheet.specs.Contents.{contents};
 ghost use Rattle.runs.specs.Law.{GoesOn, RunsSound};
-ghost use Rattle.runs.specs.Runs.{Made, event, state};
+ghost use Rattle.runs.specs.Runs.{Made, event, handed, state};
+ghost use Rattle.runs.specs.declared.call.Answer.TheVariants.{Length};
 ghost use Rattle.runs.specs.Runs as runs;
 
 use crate::call::{Answer, Call};
@@ -16,6 +17,13 @@ fn accepted(answer: Result<(), Fault>) -> Result<Answer, Fault>
     ensures { result ≡ runs.accepted answer }
 {
     answer.map(|()| Answer::Accepted)
+}
+
+// What a write answers.
+fn written(answer: Result<usize, Fault>) -> Result<Answer, Fault>
+    ensures { result ≡ handed Length answer }
+{
+    answer.map(|n| Answer::Length(n))
 }
 
 fn made<K: NumberKind>(
@@ -35,7 +43,7 @@ fn made<K: NumberKind>(
             working, spare, v.channel, v.lower, v.upper, v.centre,
         )),
         Call::Read(bytes) => accepted(sheet.read(working, bytes)),
-        Call::Write => sheet.write(out).map(|n| Answer::Length(n)),
+        Call::Write => written(sheet.write(out)),
         Call::Report(line) => sheet.report(working, line).map(|r| Answer::Report(r)),
     }
 }
