@@ -53,7 +53,7 @@ module _ {K : Type 0} (m : Model K) where
       let k = nth_some rs i (omega arith) in
       (k.0, nth_first (length ls) memory i k.0 k.1, records_true m keeps b g.proper.centre ls rs g.ruled p at i k.0 k.1)
 
-  pub encloses_is : (keeps : Rules m) (b : Box) (ls : List Line) (memory : List (Record K)) (e : Event) → Good m b ls memory → e.answer ≡ due m b ls e e.call → Encloses m b ls e
+  pub encloses_is : (keeps : Rules m) (b : Box) (ls : List Line) (memory : List (Record K)) (e : Event) → Good m b ls memory → e.answer ≡ due m b ls e e.call → Encloses b ls e
   encloses_is keeps b ls memory e g d line r ec ea p at =
       after_ok _ (records m b ls) _ (answers.Report r) (sym (ap (due m b ls e) ec) ∙ sym d ∙ ea) (λ rs er q.
       let k = report_ok b ls e.working rs line r (handed_ok _ r q) in

@@ -26,7 +26,7 @@ use Rattle.slope.specs.declared.record.Record.{Record}
 
 module _ {K : Type 0} (m : Model K) (b : Box) where
   -- an open with a proper box leaves a sheet over it
-  opened_sheet : Proper b → (x y : State K) (a : Result Answer Fault) (c : Call) → Opens m b c → Made m x y a c → y.sheet ≡ sheet_of b []
+  opened_sheet : Proper b → (x y : State K) (a : Result Answer Fault) (c : Call) → Opens b c → Made m x y a c → y.sheet ≡ sheet_of b []
   opened_sheet p x y a (calls.Open o) is made = made.2.sheet ∙ ap (reopened x.sheet) ((λ i. opened (is.0 i) (is.1 i) (is.2 i) (is.3 i)) ∙ reopens b p)
   opened_sheet p x y a (calls.Add line) is made = absurd is
   opened_sheet p x y a calls.Strike is made = absurd is
@@ -45,7 +45,7 @@ module _ {K : Type 0} (m : Model K) (b : Box) where
           (ap (λ rs. rule m b rs line) (ok_is (sym ruled ∙ er)) ∙ el)
 
   -- the fresh sheet holds the lines
-  fresh_sheet : Proper b → {ls : List Line} {h : History} → Freshly m b ls h → (rs : List (Record K)) → length ls ≤ 64 → records m b ls ≡ Ok rs
+  fresh_sheet : Proper b → {ls : List Line} {h : History} → Freshly b ls h → (rs : List (Record K)) → length ls ≤ 64 → records m b ls ≡ Ok rs
       → (s : Contents) (memory : List (Record K)) → Run m h s memory → s ≡ sheet_of b ls
   fresh_sheet p (opens {e} is) rs few er s memory run = run.sheet ∙ opened_sheet p run.from run.to e.answer e.call is run.made
   fresh_sheet p (adds {ls} {h} {e} line f is enough) rs few er s memory run =
@@ -61,7 +61,7 @@ module _ {K : Type 0} (m : Model K) (b : Box) where
       run.sheet ∙ added_sheet ls line run.from.working run.to.working made.0 run.to.sheet k.0 k.1 added ruled k.2 k.3 lent (omega arith)
 
 pub fresh_is : {K : Type 0} (m : Model K) (b : Box) (ls : List Line) (memory : List (Record K)) → Good m b ls memory
-    → (h' : History) (s' : Contents) (memory' : List (Record K)) → Freshly m b ls h' → Run m h' s' memory' → (s' ≡ sheet_of b ls) × (take (length ls) memory' ≡ take (length ls) memory)
+    → (h' : History) (s' : Contents) (memory' : List (Record K)) → Freshly b ls h' → Run m h' s' memory' → (s' ≡ sheet_of b ls) × (take (length ls) memory' ≡ take (length ls) memory)
 fresh_is m b ls memory g h' s' memory' f run =
     let held = fresh_sheet m b g.proper f (take (length ls) memory) g.few g.ruled s' memory' run in
     let c = core m h' s' memory' run in

@@ -27,6 +27,20 @@ use Rattle.writer.specs.Writing.{needed}
 abbrev pub sheet_of : Box → List Line → Contents
 sheet_of b ls = record { over = b; lines = ls }
 
+-- ---- a report encloses: at every point of the box its line's exact value is at most the margin away from the middle
+abbrev pub Encloses : Box → List Line → Event → Type 0
+Encloses b ls e = (line : ℕ) (r : Report) → e.call ≡ calls.Report line → e.answer ≡ Ok (answers.Report r)
+    → (p : Point) → InBox b p → (u : Frac) × (value_of p ls line ≡ Some u) × Near r u
+
+-- ---- a fresh sheet: it is opened with a box, and lines are added in order
+abbrev pub Opens : Box → Call → Type 0
+Opens b (calls.Open o) = (o.lower.now ≡ b.lower) × (o.upper.now ≡ b.upper) × (o.swept ≡ b.swept) × (o.centre ≡ b.centre)
+Opens b c = ⊥
+
+pub data Freshly (b : Box) : List Line → History → Type 0 where
+  opens : {e : Event} → Opens b e.call → Freshly b [] (e ∷ [])
+  adds : {ls : List Line} {h : History} {e : Event} (line : Line) → Freshly b ls h → e.call ≡ calls.Add line → 64 ≤ e.working → Freshly b (ls ++ line ∷ []) (e ∷ h)
+
 module _ {K : Type 0} (m : Model K) where
   -- ---- each call was taken or refused as the causes say, with records by the rules alone
   -- the answer that is due to a call where these lines are held over this box
@@ -39,23 +53,9 @@ module _ {K : Type 0} (m : Model K) where
   due b ls e calls.Write = handed answers.Length (needed ls e.out)
   due b ls e (calls.Report line) = after (records m b ls) (λ rs. handed answers.Report (report m (sheet_of b ls) e.working rs line))
 
-  -- a line's exact value at every point of the box is at most the reported margin away from the reported middle
-  abbrev pub Encloses : Box → List Line → Event → Type 0
-  Encloses b ls e = (line : ℕ) (r : Report) → e.call ≡ calls.Report line → e.answer ≡ Ok (answers.Report r)
-      → (p : Point) → InBox b p → (u : Frac) × (value_of p ls line ≡ Some u) × Near r u
-
   abbrev pub Answers : History → Type 0
   Answers [] = Unit {0}
   Answers (e ∷ h) = Answers h × (e.answer ≡ due (present h) (held h) e e.call) × Encloses (present h) (held h) e
-
-  -- ---- a fresh sheet is opened with a box, and lines are added in order
-  abbrev pub Opens : Box → Call → Type 0
-  Opens b (calls.Open o) = (o.lower.now ≡ b.lower) × (o.upper.now ≡ b.upper) × (o.swept ≡ b.swept) × (o.centre ≡ b.centre)
-  Opens b c = ⊥
-
-  pub data Freshly (b : Box) : List Line → History → Type 0 where
-    opens : {e : Event} → Opens b e.call → Freshly b [] (e ∷ [])
-    adds : {ls : List Line} {h : History} {e : Event} (line : Line) → Freshly b ls h → e.call ≡ calls.Add line → 64 ≤ e.working → Freshly b (ls ++ line ∷ []) (e ∷ h)
 
   -- ---- what holds after a run
   -- the memory begins with the records of the held lines
