@@ -45,9 +45,9 @@ module _ {K : Type 0} (m : Model K) (s : Contents) (w p : List (Record K)) where
   not_moved {over} {e} q r h = let i = err_from_is_err_and r h in subst (λ r. MovedTo m over s w p r s w p) (sym (i.1 ∙ ap Err i.2)) (subst (λ o. MovedTo m o s w p (Err e) s w p) (sym q) (record { answer = refl; sheet = refl; working = refl; spare = refl }))
 
   -- the new records are first in the spare lines, and then in the working lines
-  pub moved_to : (b : Box) {w' p' : List (Record K)} {r : Result (Unit {0}) Fault} → r ≡ Ok tt → r ≡ (remade m b s.lines [] []).answer → p' ≡ overlaid (remade m b s.lines [] []).records p
-      → w' ≡ overlaid (take (length s.lines) p') w → MovedTo m (Ok b) s w p (Ok tt) (record { over = b; lines = s.lines }) w' p'
-  moved_to b {w'} {p'} {r} ok e ep ew = record { answer = sym ok ∙ e; sheet = refl; working = ew ∙ ap (λ rs. overlaid rs w) front; spare = ep }
+  pub moved_to : (b : Box) {s' : Contents} {w' p' : List (Record K)} {r : Result (Unit {0}) Fault} → r ≡ Ok tt → r ≡ (remade m b s.lines [] []).answer → p' ≡ overlaid (remade m b s.lines [] []).records p
+      → w' ≡ overlaid (take (length s.lines) p') w → s' ≡ record { over = b; lines = s.lines } → MovedTo m (Ok b) s w p (Ok tt) s' w' p'
+  moved_to b {w' = w'} {p' = p'} {r = r} ok e ep ew es = record { answer = sym ok ∙ e; sheet = es; working = ew ∙ ap (λ rs. overlaid rs w) front; spare = ep }
     where
       long : length (remade m b s.lines [] []).records ≡ length s.lines
       long = let k = remade_long m b s.lines [] (remade m b s.lines [] []).lines [] (remade m b s.lines [] []).records (ap (λ a. ends a (remade m b s.lines [] []).lines (remade m b s.lines [] []).records) (sym e ∙ ok)) in omega arith

@@ -1,6 +1,8 @@
 // Moving a channel.
-ghost use Rattle.std.specs.Prelude.{◌≡◌, ◌≤◌, [], length, take, Ok};
+ghost use Rattle.std.specs.Prelude.{◌≡◌, ◌<◌, ◌≤◌, [], get_or, length, take, Ok};
 ghost use Rattle.boxes.specs.Stored.{box_of, boxed};
+ghost use Rattle.line.specs.declared.line.Line.TheVariants.{Channel};
+ghost use Rattle.rule.specs.Rule.{rule};
 ghost use Rattle.sheet.specs.Contents.{contents};
 ghost use Rattle.sheet.specs.Moving.{Moved, MovedTo, remade};
 ghost use Rattle.sheet.specs.Moving as moving;
@@ -24,6 +26,25 @@ fn copy<K: NumberKind>(to: &mut [Record<K>], from: &[Record<K>], count: usize)
 }
 
 impl Sheet {
+    // The record of a held line over a box, by those of the lines before it.
+    fn renewed<K: NumberKind>(
+        &self,
+        over: &ChannelBox,
+        earlier: &[Record<K>],
+    ) -> Result<Record<K>, Fault>
+        requires { length earlier.now < self.now.held }
+        ensures { result ≡ rule K.NumberKind.model (box_of over.now) earlier.now (get_or self.now.lines (length earlier.now) (Channel 0)) }
+    {
+        record_of(over, earlier, self.lines[earlier.len()])
+    }
+
+    // Another box under the held lines.
+    fn lay(&mut self, over: ChannelBox)
+        ensures { contents self.new ≡ record { over = box_of over; lines = (contents self.old).lines } }
+    {
+        self.over = over;
+    }
+
     // Makes the records of the held lines anew over a box, in the spare lines.
     fn remake<K: NumberKind>(&self, over: &ChannelBox, spare: &mut [Record<K>]) -> Result<(), Fault>
         requires room { 64 ≤ length spare.old }
@@ -31,8 +52,7 @@ impl Sheet {
         ensures records { spare.new ≡ overlaid (remade K.NumberKind.model (box_of over.now) (contents self.now).lines [] []).records spare.old }
     {
         for n in 0..self.held {
-            let line = self.lines[n];
-            let made = record_of(over, &spare[..n], line)?;
+            let made = self.renewed(over, &spare[..n])?;
             keep(spare, n, made);
         }
         Ok(())
@@ -51,7 +71,7 @@ impl Sheet {
     {
         self.remake(&over, spare)?;
         copy(working, spare, self.held);
-        self.over = over;
+        self.lay(over);
         Ok(())
     }
 

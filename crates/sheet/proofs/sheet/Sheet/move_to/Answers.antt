@@ -10,4 +10,4 @@ pub returns : goal.returns
 returns g c =
     let s = c.args.self.now in
     moved_to g.K.NumberKind.model (contents s) c.args.working.now c.args.spare.now (box_of c.args.over) c.in_ok-remake.was c.remake.ensures.answer c.remake.ensures.records
-    (c.copy.ensures ∙ ap (λ n. overlaid (take n c.remake.new.spare) c.args.working.now) (sym (held_is s)))
+    (c.copy.ensures ∙ ap (λ n. overlaid (take n c.remake.new.spare) c.args.working.now) (sym (held_is s))) c.lay.ensures
