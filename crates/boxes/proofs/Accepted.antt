@@ -1,17 +1,14 @@
 -- What it tells that nothing was refused.
-use Rattle.std.proofs.Common.{◌≡◌, ℕ, Bool, true, false, cond, ◌&&◌, ◌⊎◌, inl, inr, T, ℤ, ◌≤ℤ◌, Some, None, Ok, Err, Option, Result, sym, refl, ap, ◌∙◌, subst, subst₂, ap₂}
+use Rattle.std.proofs.Common.{◌≡◌, ℕ, Bool, true, false, cond, ◌&&◌, ◌⊎◌, inl, inr, T, ℤ, ◌≤ℤ◌, Ok, Err, Result, sym, refl, ap, ◌∙◌, subst, subst₂, ap₂}
 use lib.Signed.{le_z, le_z_yes}
-use Rattle.fault.specs.Refusals.{after, found}
-use Rattle.fault.specs.declared.fault.Cause.{Cause}
+use Rattle.fault.proofs.Steps.{ok_is}
+use Rattle.fault.specs.Refusals.{after}
 use Rattle.fault.specs.declared.fault.Fault.{Fault}
 use Rattle.boxes.specs.Boxes.{InOrder, centred, counted, inside, is_count, ordered, range}
 use Rattle.boxes.specs.Moving.{about, range_about}
 
 -- ---- of a step, and of a choice
 module _ {Y : Type 0} where
-  pub ok_is : {x y : Y} → ◌≡◌ {A = Result Y Fault} (Ok x) (Ok y) → x ≡ y
-  ok_is e = cc
-
   pub ok_after : {X : Type 0} (r : Result X Fault) (f : X → Result Y Fault) {y : Y} → after r f ≡ Ok y → (x : X) × (r ≡ Ok x) × (f x ≡ Ok y)
   ok_after (Ok x) f e = (x, refl, e)
   ok_after (Err q) f e = cc
@@ -27,10 +24,6 @@ module _ {Y : Type 0} where
   pub ok_either : (b : Bool) (r s : Result Y Fault) {y : Y} → cond b r s ≡ Ok y → ((b ≡ true) × (r ≡ Ok y)) ⊎ ((b ≡ false) × (s ≡ Ok y))
   ok_either true r s e = inl (refl, e)
   ok_either false r s e = inr (refl, e)
-
-  pub ok_found : (cause : Cause) (place : ℕ) (o : Option Y) {y : Y} → found cause place o ≡ Ok y → o ≡ Some y
-  ok_found cause place None e = cc
-  ok_found cause place (Some x) e = ap Some (ok_is e)
 
 pub both_true : (a b : Bool) → (a && b) ≡ true → (a ≡ true) × (b ≡ true)
 both_true true b e = (refl, e)

@@ -4,7 +4,8 @@ use Rattle.std.proofs.lemmas.Bool.{eqb-false, eqb-true}
 use Rattle.std.specs.List.{slice_get}
 use Rattle.fault.specs.Refusals.{after}
 use Rattle.fault.specs.declared.fault.Fault.{Fault}
-use Rattle.boxes.proofs.Accepted.{ok_after, ok_either, ok_is, range_about_tells, range_tells}
+use Rattle.fault.proofs.Steps.{ok_is}
+use Rattle.boxes.proofs.Accepted.{ok_after, ok_either, range_about_tells, range_tells}
 use Rattle.boxes.specs.Boxes.{Box, InOrder, range}
 use Rattle.boxes.specs.Moving.{changed, judged, moved}
 

@@ -1,13 +1,14 @@
 -- Boxes that are blank, opened or moved are proper, and open takes a proper box again.
-use Rattle.std.proofs.Common.{◌≡◌, ℕ, zero, suc, ◌<◌, Bool, true, false, cond, not, ◌||◌, nat_lt, List, [], ◌∷◌, length, set, ℤ, ◌≤ℤ◌, Some, Ok, Result, sym, refl, ap, ◌∙◌, subst, subst₂, arith, length-set, ◌==◌}
+use Rattle.std.proofs.Common.{◌≡◌, ℕ, zero, suc, Bool, true, false, cond, not, ◌||◌, nat_lt, List, [], ◌∷◌, length, set, ℤ, ◌≤ℤ◌, Some, Ok, Result, sym, refl, ap, ◌∙◌, subst, subst₂, arith, length-set, ◌==◌}
 use Rattle.std.proofs.lemmas.Bool.{eqb-false, eqb-true, ltb-false, not-false}
 use Rattle.std.proofs.lemmas.Option.{none-some, same_Some, slice_get_within}
 use Rattle.std.specs.List.{slice_get}
 use Rattle.fault.specs.Refusals.{after, found}
 use Rattle.fault.specs.declared.fault.Fault.{Fault}
 use Rattle.fault.specs.declared.fault.Cause.TheVariants.{NoChannel}
-use Rattle.boxes.proofs.Accepted.{centred_tells, ok_after, ok_found, ok_is, ok_unless, range_tells}
-use Rattle.boxes.proofs.Changes.{elsewhere, left, there, which}
+use Rattle.fault.proofs.Steps.{found_ok, ok_is}
+use Rattle.boxes.proofs.Accepted.{centred_tells, ok_after, ok_unless, range_tells}
+use Rattle.boxes.proofs.Changes.{elsewhere, there, which}
 use Rattle.boxes.proofs.Moved.{Fits, judged_fits, judged_is}
 use Rattle.boxes.specs.Boxes.{Box, Centred, InOrder, Proper, blank_box, centred, opened, range, ranges}
 use Rattle.boxes.specs.Moving.{changed, judged, moved}
@@ -42,29 +43,9 @@ module _ (b : Box) (channel : ℕ) (lower upper centre : ℤ) {to : Box} (e : mo
   judged_in : (m : ℤ × ℤ × ℤ) × (judged b channel lower upper centre ≡ Ok m) × (◌≡◌ {A = Result Box Fault} (Ok (changed b channel m.0 m.1 m.2)) (Ok to))
   judged_in = ok_after (judged b channel lower upper centre) _ found_in.2
 
-  -- the channel is one of the box's
-  pub moved_held : channel < length b.lower
-  moved_held = slice_get_within b.lower channel found_in.0 (ok_found NoChannel channel (slice_get b.lower channel) found_in.1)
-
   -- nothing changes but its range and, if it is swept, the centre
   pub moved_is : to ≡ changed b channel lower upper (cond (channel == b.swept) centre b.centre)
   moved_is = sym (ok_is judged_in.2) ∙ ap (λ m. changed b channel m.0 m.1 m.2) (sym (judged_is b channel lower upper centre judged_in.1))
-
-  -- so the swept channel, the number of channels and the ends of the other channels stay
-  pub moved_swept : to.swept ≡ b.swept
-  moved_swept = ap (λ b. b.swept) moved_is
-
-  pub moved_lowers : length to.lower ≡ length b.lower
-  moved_lowers = ap (λ b. length b.lower) moved_is ∙ length-set b.lower channel lower
-
-  pub moved_uppers : length to.upper ≡ length b.upper
-  moved_uppers = ap (λ b. length b.upper) moved_is ∙ length-set b.upper channel upper
-
-  pub others_low : (c : ℕ) → (channel ≡ c → ⊥) → slice_get to.lower c ≡ slice_get b.lower c
-  others_low c n = ap (λ b. slice_get b.lower c) moved_is ∙ left lower b.lower channel c n
-
-  pub others_high : (c : ℕ) → (channel ≡ c → ⊥) → slice_get to.upper c ≡ slice_get b.upper c
-  others_high c n = ap (λ b. slice_get b.upper c) moved_is ∙ left upper b.upper channel c n
 
   pub moved_proper : Proper b → Proper to
   moved_proper proper = subst Proper (ok_is judged_in.2) (changed_proper proper channel judged_in.0 (judged_fits b channel lower upper centre judged_in.1))
@@ -104,8 +85,8 @@ module _ (lower upper : List ℤ) (swept : ℕ) (centre : ℤ) {to : Box} where
       let r = ok_after (ranges 0 lower upper) _ a.1 in
       let l = ok_after (found NoChannel swept (slice_get lower swept)) _ r.2 in
       let u = ok_after (found NoChannel swept (slice_get upper swept)) _ l.2 in
-      let el = ok_found NoChannel swept (slice_get lower swept) l.1 in
-      let eu = ok_found NoChannel swept (slice_get upper swept) u.1 in
+      let el = found_ok NoChannel swept (slice_get lower swept) l.0 l.1 in
+      let eu = found_ok NoChannel swept (slice_get upper swept) u.0 u.1 in
       let t = centre_told l.0 u.0 u.2 in (
         t.0,
         record {
