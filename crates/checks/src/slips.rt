@@ -25,6 +25,14 @@ fn words(rt: HostRuntime) {
     slips(
         &rt,
         heap,
+        "move 0 lower 1 centre 1",
+        "centre",
+        Problem::Expected("upper"),
+    );
+    slips(&rt, heap, "move -1 lower 1 upper 2 centre 1", "-1", Problem::NoIndex);
+    slips(
+        &rt,
+        heap,
         "report 9223372036854775808",
         "9223372036854775808",
         Problem::NoNumber,

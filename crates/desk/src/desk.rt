@@ -1,14 +1,16 @@
 // The desk of one kind.
 ghost use Rattle.std.specs.Prelude.{◌≤◌};
+ghost use Rattle.desk.specs.Answered.{Reports};
 
+use crate::answers::told;
 use crate::texts::Held;
 use crate::windows::Refused;
 use fault::Fault;
 use kind::NumberKind;
-use line::Line;
-use marks::{Decimal, Units};
+use marks::Units;
 use report::Report;
-use script::{Call, Opening};
+use runs::Answer;
+use script::{Call, Moving, Opening};
 use sheet::Sheet;
 use slope::Record;
 use span::Span;
@@ -20,22 +22,17 @@ pub const MEMORY: usize = 128;
 // How many bytes are enough to write any sheet into.
 const ENOUGH: usize = 2048;
 
-// A sheet, the memory, and how much of it is lent to the calls. (`lent` is no length of the arrays: every line of them can be read.)
+// A sheet, the memory, and how much of it is lent to the calls. (What is lent is no length of the arrays: every line of them can be
+// read.)
 #[derive(Drop)]
 pub struct Desk<K: Units> {
     sheet: Sheet,
     working: [Record<K>; 128],
     spare: [Record<K>; 128],
     lent: usize,
+    lent_spare: usize,
     ghost few: { lent ≤ 128 },
-}
-
-// An accepted call, or its refusal.
-fn outcome(heap: Global, call: &str, answer: Result<(), Fault>) -> Result<String, AllocError> {
-    match answer {
-        Ok(()) => format!(in heap; "{call}: accepted"),
-        Err(fault) => format!(in heap; "{call}: {fault}"),
-    }
+    ghost few_spare: { lent_spare ≤ 128 },
 }
 
 // What a line of the memory holds.
@@ -49,13 +46,30 @@ fn held<K: Units>(
     format!(in heap; "{call} {line}: {held}")
 }
 
-// The midpoint of channel 0, rounded down. Ends that are no counts, or no channel at all, are refused before it is read. (The two
-// lists are lent, here and below, as the sheet's open has them.)
+// The midpoint of channel 0, rounded down. Ends that are no counts, or no channel at all, are refused before it is read.
 fn midpoint(lower: &[i64], upper: &[i64]) -> i64 {
     let (Some(l), Some(u)) = (lower.first(), upper.first()) else {
         return 0;
     };
     l.saturating_add(*u).div_euclid(2)
+}
+
+fn opening(opening: &Opening) -> runs::Call<'_> {
+    runs::Call::Open(runs::Opening {
+        lower: opening.counts.lower.as_slice(),
+        upper: opening.counts.upper.as_slice(),
+        swept: opening.swept,
+        centre: opening.centre,
+    })
+}
+
+fn moving(moving: Moving) -> runs::Call<'static> {
+    runs::Call::Move(runs::Moving {
+        channel: moving.channel,
+        lower: moving.lower,
+        upper: moving.upper,
+        centre: moving.centre,
+    })
 }
 
 impl<K: Units> Desk<K> {
@@ -68,113 +82,96 @@ impl<K: Units> Desk<K> {
             working: [flat; 128],
             spare: [flat; 128],
             lent: 64,
+            lent_spare: 64,
         }
     }
 
-    // From now on so many working lines are lent.
-    pub fn lend(&mut self, working: usize) {
+    // From now on so many working and spare lines are lent.
+    fn lend(&mut self, working: usize, spare: usize) {
         self.lent = working.min(MEMORY);
+        self.lent_spare = spare.min(MEMORY);
     }
 
-    pub fn open(&mut self, heap: Global, opening: &Opening) -> Result<String, AllocError> {
-        let answer = self.sheet.open(
-            opening.counts.lower.as_slice(),
-            opening.counts.upper.as_slice(),
-            opening.swept,
-            opening.centre,
-        );
-        outcome(heap, "open", answer)
+    // Makes a call on the sheet with what is lent. Every call on it is made here.
+    fn make(&mut self, out: &mut [u8], call: runs::Call<'_>) -> Result<Answer, Fault>
+        ensures { Reports call.entry result }
+    {
+        runs::make(
+            &mut self.sheet,
+            &mut self.working[..self.lent],
+            &mut self.spare[..self.lent_spare],
+            out,
+            call,
+        )
     }
 
-    pub fn add(&mut self, heap: Global, line: Line) -> Result<String, AllocError> {
-        match self.sheet.add(&mut self.working[..self.lent], line) {
-            Ok(number) => format!(in heap; "add: line {number}"),
-            Err(fault) => format!(in heap; "add: {fault}"),
-        }
+    // Makes a call that writes no bytes.
+    fn call(
+        &mut self,
+        heap: Global,
+        name: &str,
+        call: runs::Call<'_>,
+    ) -> Result<String, AllocError> {
+        told(heap, name, self.make(&mut [], call), &[])
     }
 
-    pub fn strike(&mut self, heap: Global) -> Result<String, AllocError> {
-        outcome(heap, "strike", self.sheet.strike())
-    }
-
-    fn load(&mut self, bytes: &[u8]) -> Result<(), Fault> {
-        self.sheet.read(&mut self.working[..self.lent], bytes)
-    }
-
-    pub fn read(&mut self, heap: Global, bytes: &[u8]) -> Result<String, AllocError> {
-        outcome(heap, "read", self.load(bytes))
-    }
-
-    pub fn write(&self, heap: Global, room: Option<usize>) -> Result<String, AllocError> {
+    fn write(&mut self, heap: Global, room: Option<usize>) -> Result<String, AllocError> {
         let mut bytes = [0u8; ENOUGH];
         let room = room.unwrap_or(ENOUGH).min(ENOUGH);
-        match self.sheet.write(&mut bytes[..room]) {
-            Ok(length) => {
-                let mut text = String::from_str(heap, "write:")?;
-                for byte in bytes.iter().take(length) {
-                    write!(text, " {byte:02x}")?;
-                }
-                Ok(text)
-            }
-            Err(fault) => format!(in heap; "write: {fault}"),
-        }
+        let answer = self.make(&mut bytes[..room], runs::Call::Write);
+        told(heap, "write", answer, &bytes)
     }
 
-    fn range(&self, line: usize) -> Result<Report, Fault> {
-        self.sheet.report(&self.working[..self.lent], line)
-    }
-
-    pub fn report(&self, heap: Global, line: usize) -> Result<String, AllocError> {
-        match self.range(line) {
-            Ok(report) => {
-                let value = Decimal {
-                    units: report.middle.saturating_mul(256),
-                };
-                let about = Decimal {
-                    units: report.margin.saturating_mul(256),
-                };
-                format!(in heap; "report {line}: {report} ({value} +- {about})")
-            }
-            Err(fault) => format!(in heap; "report {line}: {fault}"),
-        }
+    fn report(&mut self, heap: Global, line: usize) -> Result<String, AllocError> {
+        let name = format!(in heap; "report {line}")?;
+        self.call(heap, name.as_str(), runs::Call::Report(line))
     }
 
     // The working line of a held line.
-    pub fn record(&self, heap: Global, line: usize) -> Result<String, AllocError> {
+    fn record(&self, heap: Global, line: usize) -> Result<String, AllocError> {
         if line >= self.sheet.held() {
             return format!(in heap; "record {line}: not held");
         }
         held(heap, "record", line, self.working[line.min(MEMORY - 1)])
     }
 
-    // A working line, held or not.
-    pub fn working(&self, heap: Global, line: usize) -> Result<String, AllocError> {
+    // A line of the memory, held or not.
+    fn working(&self, heap: Global, line: usize) -> Result<String, AllocError> {
         held(heap, "working", line, self.working[line.min(MEMORY - 1)])
     }
 
-    pub fn spare(&self, heap: Global, line: usize) -> Result<String, AllocError> {
+    fn spare(&self, heap: Global, line: usize) -> Result<String, AllocError> {
         held(heap, "spare", line, self.spare[line.min(MEMORY - 1)])
     }
-}
 
-impl<K: Units> Desk<K> {
     // Makes a call, and answers in words. (The station has blanked the desk of a kind already.)
     pub fn answer(&mut self, heap: Global, call: &Call) -> Result<String, AllocError> {
         match call {
             Call::Kind(kind) => format!(in heap; "kind: {kind}"),
             Call::Lend(working, spare) => {
-                self.lend(*working);
+                self.lend(*working, *spare);
                 format!(in heap; "lend: {working} {spare}")
             }
-            Call::Open(opening) => self.open(heap, opening),
-            Call::Add(line) => self.add(heap, *line),
-            Call::Strike => self.strike(heap),
-            Call::Read(bytes) => self.read(heap, bytes.as_slice()),
+            Call::Open(o) => self.call(heap, "open", opening(o)),
+            Call::Add(line) => self.call(heap, "add", runs::Call::Add(*line)),
+            Call::Strike => self.call(heap, "strike", runs::Call::Strike),
+            Call::Move(m) => self.call(heap, "move", moving(*m)),
+            Call::Read(bytes) => self.call(heap, "read", runs::Call::Read(bytes.as_slice())),
             Call::Write(room) => self.write(heap, *room),
             Call::Report(line) => self.report(heap, *line),
             Call::Record(line) => self.record(heap, *line),
             Call::Working(line) => self.working(heap, *line),
             Call::Spare(line) => self.spare(heap, *line),
+        }
+    }
+}
+
+impl<K: Units> Desk<K> {
+    // The range of a line.
+    fn range(&mut self, line: usize) -> Result<Report, Fault> {
+        match self.make(&mut [], runs::Call::Report(line))? {
+            Answer::Report(report) => Ok(report),
+            _ => unreachable!(),
         }
     }
 
@@ -185,20 +182,26 @@ impl<K: Units> Desk<K> {
         lower: &[i64],
         upper: &[i64],
     ) -> Result<Report, Refused> {
-        self.sheet
-            .open(lower, upper, 0, midpoint(lower, upper))
+        let over = runs::Opening {
+            lower,
+            upper,
+            swept: 0,
+            centre: midpoint(lower, upper),
+        };
+        self.make(&mut [], runs::Call::Open(over))
             .map_err(|fault| Refused {
                 call: "open",
                 fault,
             })?;
-        self.load(formula).map_err(|fault| Refused {
-            call: "read",
-            fault,
-        })?;
-        self.range(self.sheet.held().saturating_sub(1))
+        self.make(&mut [], runs::Call::Read(formula))
             .map_err(|fault| Refused {
-                call: "report",
+                call: "read",
                 fault,
-            })
+            })?;
+        let last = self.sheet.held().saturating_sub(1);
+        self.range(last).map_err(|fault| Refused {
+            call: "report",
+            fault,
+        })
     }
 }

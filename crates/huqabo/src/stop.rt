@@ -9,7 +9,7 @@ huqabo replay [FILE]            answers calls, one a line, from FILE or standard
 huqabo windows FORMULA [KIND]   reports the formula of FORMULA, in hexadecimal, for each window of standard input
 
 A window is a line of counts: the lower and the upper end of each channel in turn. KIND is fixed or sliding.
-Calls: kind, lend, open, add, strike, read, write, report, record, working, spare. See docs/PROGRAM.md.";
+Calls: kind, lend, open, add, strike, move, read, write, report, record, working, spare. See docs/PROGRAM.md.";
 
 #[derive(Debug, Drop)]
 pub enum Stop {

@@ -43,6 +43,14 @@ pub struct Opening {
     pub centre: i64,
 }
 
+#[derive(Clone, Copy)]
+pub struct Moving {
+    pub channel: usize,
+    pub lower: i64,
+    pub upper: i64,
+    pub centre: i64,
+}
+
 #[derive(Drop)]
 pub enum Call {
     // a blank sheet of a kind
@@ -52,6 +60,7 @@ pub enum Call {
     Open(Opening),
     Add(Line),
     Strike,
+    Move(Moving),
     Read(Vec<u8>),
     // into so many bytes, or into enough
     Write(Option<usize>),

@@ -8,7 +8,7 @@ mod parse;
 mod slip;
 mod words;
 
-pub use call::{Call, KindName, Opening};
+pub use call::{Call, KindName, Moving, Opening};
 pub use counts::{Counts, counts_of};
 pub use hex::append_bytes;
 pub use parse::call_of;

@@ -1,5 +1,5 @@
 // Lines of a script as calls.
-use crate::call::{Call, KindName, Opening};
+use crate::call::{Call, KindName, Moving, Opening};
 use crate::counts::Counts;
 use crate::hex::bytes_of;
 use crate::slip::{Problem, Slip};
@@ -23,17 +23,30 @@ fn numbers_to<'a>(
     Err(words.missing())
 }
 
+// The number behind a word.
+fn number_behind<'a>(words: &mut Words<'a>, word: &'static str) -> Result<i64, Slip<'a>> {
+    words.expect(word)?;
+    words.number()
+}
+
 fn opening<'a>(heap: Global, words: &mut Words<'a>) -> Result<Opening, Slip<'a>> {
     words.expect("lower")?;
     let lower = numbers_to(heap, words, "upper")?;
     let upper = numbers_to(heap, words, "swept")?;
     let swept = words.index()?;
-    words.expect("centre")?;
-    let centre = words.number()?;
     Ok(Opening {
         counts: Counts { lower, upper },
         swept,
-        centre,
+        centre: number_behind(words, "centre")?,
+    })
+}
+
+fn moving<'a>(words: &mut Words<'a>) -> Result<Moving, Slip<'a>> {
+    Ok(Moving {
+        channel: words.index()?,
+        lower: number_behind(words, "lower")?,
+        upper: number_behind(words, "upper")?,
+        centre: number_behind(words, "centre")?,
     })
 }
 
@@ -79,6 +92,7 @@ fn call<'a>(heap: Global, word: &'a str, words: &mut Words<'a>) -> Result<Call, 
         "open" => Call::Open(opening(heap, words)?),
         "add" => Call::Add(line_of(words)?),
         "strike" => Call::Strike,
+        "move" => Call::Move(moving(words)?),
         "read" => Call::Read(bytes_of(heap, words)?),
         "write" => Call::Write(room(words)?),
         "report" => Call::Report(words.index()?),

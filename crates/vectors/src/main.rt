@@ -61,7 +61,7 @@ fn run(rt: &HostRuntime, name: &str) -> anyhow::Result<()> {
 }
 
 // Each has its answers beside it.
-const SCRIPTS: [&str; 8] = [
+const SCRIPTS: [&str; 13] = [
     "trials",
     "edges",
     "calls-101",
@@ -70,6 +70,11 @@ const SCRIPTS: [&str; 8] = [
     "calls-104",
     "calls-105",
     "calls-106",
+    "moves-edges",
+    "moves-201",
+    "moves-202",
+    "moves-203",
+    "moves-204",
 ];
 
 fn main(rt: HostRuntime) -> anyhow::Result<()> {
