@@ -1,5 +1,5 @@
 -- What the law is proved from: a proper box, at most 64 lines, and a memory that begins with their records.
-use Rattle.std.proofs.Common.{ℕ, ◌≤◌, List, length}
+use Rattle.std.proofs.Common.{◌≤◌, List, length}
 use Rattle.boxes.specs.Boxes.{Box, Proper}
 use Rattle.kind.specs.Model.{Model}
 use Rattle.line.specs.declared.line.Line.{Line}

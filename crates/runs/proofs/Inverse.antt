@@ -1,5 +1,5 @@
 -- What an accepted move and an accepted read tell of the records they made.
-use Rattle.std.proofs.Common.{◌≡◌, ◌==◌, ℕ, zero, suc, ◌+◌, ◌<◌, ◌≤◌, Bool, true, false, cond, nat_lt, List, [], ◌∷◌, ◌++◌, length, ℤ, Ok, Err, Result, sym, refl, ap, ◌∙◌, subst, arith, length-append, append-nil}
+use Rattle.std.proofs.Common.{◌≡◌, ◌==◌, ℕ, zero, suc, ◌+◌, ◌<◌, ◌≤◌, Bool, true, false, cond, nat_lt, List, [], ◌∷◌, ◌++◌, length, ℤ, Ok, Err, Result, sym, refl, ap, ◌∙◌, subst, arith, length-append}
 use Rattle.std.proofs.lemmas.Bool.{lt-ltb, ltb-false}
 use Rattle.boxes.specs.Boxes.{Box}
 use Rattle.boxes.specs.Moving.{moved}
@@ -19,7 +19,7 @@ use Rattle.runs.specs.Events.{given_of, lines_given}
 use Rattle.sheet.proofs.Trips.{formula_spells, goes_ok}
 use Rattle.sheet.specs.Contents.{Contents}
 use Rattle.sheet.specs.Moving.{move_onto, new_box, remade}
-use Rattle.sheet.specs.Reading.{Outcome, ends, goes_on, read_formula, read_lines, read_onto}
+use Rattle.sheet.specs.Reading.{Outcome, ends, read_formula, read_lines, read_onto}
 use Rattle.slope.specs.declared.record.Record.{Record}
 
 -- an accepted outcome

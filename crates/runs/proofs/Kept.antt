@@ -1,12 +1,12 @@
 -- Each call keeps that the sheet holds the present box and the held lines, and that the memory begins with their records.
-use Rattle.std.proofs.Common.{◌≡◌, ℕ, zero, suc, ◌+◌, ◌-◌, ◌<◌, ◌≤◌, ◌==◌, Bool, true, false, cond, nat_lt, List, [], ◌∷◌, ◌++◌, length, take, drop, set, Ok, Err, Result, sym, refl, ap, ◌∙◌, subst, arith, append_assoc, length-append, length-set, length-take-le, take_all}
+use Rattle.std.proofs.Common.{◌≡◌, ℕ, ◌+◌, ◌-◌, ◌<◌, ◌≤◌, ◌==◌, Bool, true, false, cond, nat_lt, List, [], ◌∷◌, ◌++◌, length, take, drop, set, Ok, Err, Result, sym, refl, ap, ◌∙◌, subst, arith, append_assoc, length-append, length-set, length-take-le, take_all}
 use Rattle.std.proofs.Math.Seq.{take-append_seam}
 use Rattle.std.proofs.lemmas.Bool.{eqb-false, eqb-true, ltb-false, ltb-true}
 use Rattle.std.proofs.lemmas.List.{take-append-le, take_more_set}
 use Rattle.std.specs.Borrow.{Bor}
 use Rattle.boxes.proofs.Proper.{blank_proper, moved_is, moved_proper, opened_is, opened_proper}
 use Rattle.boxes.specs.Boxes.{Box, Proper, opened}
-use Rattle.fault.proofs.Steps.{err_ok, ok_is}
+use Rattle.fault.proofs.Steps.{err_ok}
 use Rattle.fault.specs.Refusals.{refused}
 use Rattle.fault.specs.declared.fault.Cause.TheVariants.{Full, Lines, NoLine}
 use Rattle.fault.specs.declared.fault.Fault.{Fault}
@@ -27,7 +27,7 @@ use Rattle.runs.specs.declared.call.Call.{Call}
 use Rattle.runs.specs.declared.call.Call.TheVariants as calls
 use Rattle.runs.specs.declared.call.Moving.{Moving}
 use Rattle.runs.specs.declared.call.Opening.{Opening}
-use Rattle.sheet.specs.Calls.{Added, Makes, Opened, Recorded, Struck, accepts, grown, numbered, reopened, shortened, stored, strikes}
+use Rattle.sheet.specs.Calls.{Added, Opened, Recorded, Struck, accepts, grown, numbered, reopened, stored}
 use Rattle.sheet.specs.Contents.{Contents}
 use Rattle.sheet.specs.Moving.{Moved, move_onto, new_box, renewed, shifted}
 use Rattle.sheet.specs.Reading.{Outcome, Read, filled, overlaid, read_onto}
@@ -194,10 +194,18 @@ module _ {K : Type 0} (m : Model K) where
   step b ls x y rest calls.Write a es g h = record { sheet = h.3 ∙ es; good = subst (λ u. Good m b ls (u ++ rest)) (sym h.4) g }
   step b ls x y rest (calls.Report line) a es g h = record { sheet = h.3 ∙ es; good = subst (λ u. Good m b ls (u ++ rest)) (sym h.4) g }
 
+  -- only the first 64 lines of the memory count
+  same_front : (b : Box) (ls : List Line) (memory other : List (Record K)) → take 64 memory ≡ take 64 other → Good m b ls memory → Good m b ls other
+  same_front b ls memory other e g = record {
+    proper = g.proper;
+    few = g.few;
+    ruled = g.ruled ∙ ap Ok (sym (take_shorter (length ls) 64 memory g.few) ∙ ap (take (length ls)) e ∙ take_shorter (length ls) 64 other g.few);
+  }
+
   -- the sheet holds the present box and the held lines, and the memory begins with their records
   pub core : (h : History) (s : Contents) (memory : List (Record K)) → Run m h s memory → (s ≡ sheet_of (present h) (held h)) × Good m (present h) (held h) memory
   core [] s memory e = (e, record { proper = blank_proper; few = omega arith; ruled = refl })
   core (e ∷ h) s memory r =
       let k = core h r.from.sheet (r.from.working ++ r.rest) r.before in
       let j = step (present h) (held h) r.from r.to r.rest e.call e.answer k.0 k.1 r.made in
-      (r.sheet ∙ j.sheet, subst (Good m (present (e ∷ h)) (held (e ∷ h))) (sym r.left) j.good)
+      (r.sheet ∙ j.sheet, same_front (present (e ∷ h)) (held (e ∷ h)) (r.to.working ++ r.rest) memory (sym r.left) j.good)

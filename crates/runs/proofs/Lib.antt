@@ -5,6 +5,7 @@ pub mod Kept
 pub mod Due
 pub mod Enclosing
 pub mod Fresh
+pub mod Taken
 pub mod Again
 pub mod Called
 pub mod Soundness

@@ -1,13 +1,14 @@
 -- The law over runs, put together.
-use Rattle.std.proofs.Common.{◌≡◌, List, [], ◌∷◌, ◌++◌, Result, sym, refl, subst}
+use Rattle.std.proofs.Common.{List, [], ◌∷◌, ◌++◌, length, take, Result, sym, refl, subst}
 use Rattle.kind.specs.Model.{Model, Rules}
 use Rattle.runs.proofs.Again.{again_is}
 use Rattle.runs.proofs.Due.{due_is}
 use Rattle.runs.proofs.Enclosing.{encloses_is, tells_is}
 use Rattle.runs.proofs.Fresh.{fresh_is}
 use Rattle.runs.proofs.Kept.{core}
-use Rattle.runs.specs.Events.{Event, History, held, present}
-use Rattle.runs.specs.Law.{Answers, GoesOn, RunsSound, Sound, sheet_of}
+use Rattle.runs.proofs.Taken.{fresh_exists}
+use Rattle.runs.specs.Events.{History, held, present}
+use Rattle.runs.specs.Law.{Answers, GoesOn, RunsSound, Sound}
 use Rattle.runs.specs.Runs.{Goes, Made, Run, State, event}
 use Rattle.runs.specs.declared.call.Answer.{Answer}
 use Rattle.runs.specs.declared.call.Call.{Call}
@@ -32,9 +33,10 @@ module _ {K : Type 0} (m : Model K) (keeps : Rules m) where
       subst (λ s. Sound m h s memory) (sym k.0) (record {
         sheet = refl;
         few = k.1.few;
-        true = tells_is m keeps b ls memory k.1;
+        truth = tells_is m keeps b ls memory k.1;
         answers = answers_are h s memory r;
         records = k.1.ruled;
+        taken = fresh_exists m b k.1.proper ls (take (length ls) memory) k.1.ruled k.1.few;
         fresh = fresh_is m b ls memory k.1;
         again = again_is m b ls memory k.1;
       })

@@ -1,5 +1,5 @@
 -- Calls with their answers, and what they say of the present box and the held lines.
-use Rattle.std.specs.Prelude.{◌-◌, ℕ, cond, List, [], ◌∷◌, ◌++◌, length, take, ℤ, Ok, Err, Result, ◌==◌}
+use Rattle.std.specs.Prelude.{◌-◌, ℕ, cond, List, [], ◌∷◌, ◌++◌, length, take, Ok, Err, Result, ◌==◌}
 use Rattle.boxes.specs.Boxes.{Box, blank_box}
 use Rattle.boxes.specs.Moving.{changed}
 use Rattle.fault.specs.declared.fault.Fault.{Fault}
@@ -7,8 +7,7 @@ use Rattle.line.specs.declared.line.Line.{Line}
 use Rattle.reader.specs.Reading.{formula_at}
 use Rattle.runs.specs.declared.call.Answer.{Answer}
 use Rattle.runs.specs.declared.call.Call.{Call}
-use Rattle.runs.specs.declared.call.Call.TheVariants.{Add, Move, Open, Read, Report, Strike, Write}
-use Rattle.runs.specs.declared.call.Moving.{Moving}
+use Rattle.runs.specs.declared.call.Call.TheVariants.{Add, Move, Open, Read, Strike}
 use Rattle.runs.specs.declared.call.Opening.{Opening}
 
 -- a call, how many working and spare lines and which bytes to write to it was lent, and its answer

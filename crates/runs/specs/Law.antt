@@ -1,5 +1,5 @@
 -- The law over runs: after any calls, in any order, taken or refused, the sheet tells the truth.
-use Rattle.std.specs.Prelude.{◌≡◌, ℕ, ◌<◌, ◌≤◌, List, [], ◌∷◌, ◌++◌, length, take, Ok, Err, Some, Result}
+use Rattle.std.specs.Prelude.{◌≡◌, ℕ, ◌<◌, ◌≤◌, List, [], ◌∷◌, ◌++◌, length, take, Ok, Some, Result}
 use Rattle.std.specs.List.{slice_get}
 use Rattle.boxes.specs.Boxes.{Box, opened}
 use Rattle.exact.specs.Fraction.{Frac}
@@ -32,7 +32,7 @@ abbrev pub Encloses : Box → List Line → Event → Type 0
 Encloses b ls e = (line : ℕ) (r : Report) → e.call ≡ calls.Report line → e.answer ≡ Ok (answers.Report r)
     → (p : Point) → InBox b p → (u : Frac) × (value_of p ls line ≡ Some u) × Near r u
 
--- ---- a fresh sheet: it is opened with a box, and lines are added in order
+-- ---- the calls of a fresh sheet: it is opened with a box, and lines are added in order, each with enough working lines
 abbrev pub Opens : Box → Call → Type 0
 Opens b (calls.Open o) = (o.lower.now ≡ b.lower) × (o.upper.now ≡ b.upper) × (o.swept ≡ b.swept) × (o.centre ≡ b.centre)
 Opens b c = ⊥
@@ -58,9 +58,16 @@ module _ {K : Type 0} (m : Model K) where
   Answers (e ∷ h) = Answers h × (e.answer ≡ due (present h) (held h) e e.call) × Encloses (present h) (held h) e
 
   -- ---- what holds after a run
-  -- the memory begins with the records of the held lines
-  abbrev pub recorded : Contents → List (Record K) → List (Record K)
-  recorded s memory = take (length s.lines) memory
+  -- the first of the memory, one for each held line
+  abbrev pub fronts : Contents → List (Record K) → List (Record K)
+  fronts s memory = take (length s.lines) memory
+
+  -- a fresh sheet came to hold this
+  pub record FreshRun (s : Contents) : Type 0 where
+    pub history : History
+    pub memory : List (Record K)
+    pub freshly : Freshly s.over s.lines history
+    pub run : Run m history s memory
 
   -- line i has a record in the memory, which tells the truth at a point
   abbrev pub TellsAt : Contents → List (Record K) → Point → ℕ → Type 0
@@ -71,16 +78,18 @@ module _ {K : Type 0} (m : Model K) where
     pub sheet : s ≡ sheet_of (present h) (held h)
     pub few : length s.lines ≤ 64
     -- at every point of the present box each held line has an exact value, which lies in its span U, and both slope forms hold there
-    pub true : (p : Point) → InBox s.over p → (i : ℕ) → i < length s.lines → TellsAt s memory p i
+    pub truth : (p : Point) → InBox s.over p → (i : ℕ) → i < length s.lines → TellsAt s memory p i
     -- every answer was due, and every report encloses
     pub answers : Answers h
     -- each held line has the record that the rules give it over the present box
     pub records : Recorded m s memory
-    -- and so the one that a fresh sheet gives it: that sheet takes all lines, and has the same records
-    pub fresh : (h' : History) (s' : Contents) (memory' : List (Record K)) → Freshly s.over s.lines h' → Run m h' s' memory' → (s' ≡ s) × (recorded s memory' ≡ recorded s memory)
+    -- and so the one that a fresh sheet gives it: with any 64 records as its memory there is a fresh sheet that takes all lines,
+    -- and every fresh sheet takes them and has the same records
+    pub taken : (memory' : List (Record K)) → 64 ≤ length memory' → FreshRun s
+    pub fresh : (h' : History) (s' : Contents) (memory' : List (Record K)) → Freshly s.over s.lines h' → Run m h' s' memory' → (s' ≡ s) × (fronts s memory' ≡ fronts s memory)
     -- what the sheet writes is read as its lines, with their records, by an empty sheet over the same box
     pub again : (out out' : List ℕ) (n : ℕ) → Written s out (Ok n) out' → (t t' : Contents) (w w' : List (Record K)) (r : Result (Unit {0}) Fault)
-        → t.over ≡ s.over → t.lines ≡ [] → 64 ≤ length w → Read m (take n out') t w r t' w' → (r ≡ Ok tt) × (t' ≡ s) × (recorded s w' ≡ recorded s memory)
+        → t.over ≡ s.over → t.lines ≡ [] → 64 ≤ length w → Read m (take n out') t w r t' w' → (r ≡ Ok tt) × (t' ≡ s) × (fronts s w' ≡ fronts s memory)
 
   abbrev pub RunsSound : Type 0
   RunsSound = (h : History) (s : Contents) (memory : List (Record K)) → Run m h s memory → Sound h s memory

@@ -1,5 +1,5 @@
 -- Runs: calls made one after the other on a sheet that was blank, over one kind.
-use Rattle.std.specs.Prelude.{◌≡◌, ℕ, List, [], ◌∷◌, ◌++◌, length, Ok, Err, Result}
+use Rattle.std.specs.Prelude.{◌≡◌, ℕ, List, [], ◌∷◌, ◌++◌, length, take, Ok, Err, Result}
 use Rattle.fault.specs.declared.fault.Fault.{Fault}
 use Rattle.kind.specs.Model.{Model}
 use Rattle.report.specs.declared.answer.Report.{Report}
@@ -61,8 +61,8 @@ module _ {K : Type 0} where
     Made (calls.Report line) = (r : Result Report Fault) × (a ≡ handed answers.Report r) × Reported m line x.sheet x.working r × SameSheet x y × SameWorking x y × SameSpare x y × SameOut x y
 
 module _ {K : Type 0} (m : Model K) where
-  -- one call more, on a sheet and memory as the calls before left them: the working lines are the first of the memory, as many as
-  -- are lent; spare lines and bytes are any
+  -- One call more, on a sheet and memory as the calls before left them. The working lines are the first of the memory, as many as are lent;
+  -- spare lines and bytes are any. The first 64 lines of the memory are afterwards as the call left them; what lies beyond is nobody's.
   pub record Goes (e : Event) (Before : Contents → List (Record K) → Type 0) (s : Contents) (memory : List (Record K)) : Type 0 where
     pub from : State K
     pub to : State K
@@ -73,7 +73,7 @@ module _ {K : Type 0} (m : Model K) where
     pub spare : e.spare ≡ length from.spare
     pub out : e.out ≡ from.out
     pub sheet : s ≡ to.sheet
-    pub left : memory ≡ to.working ++ rest
+    pub left : take 64 memory ≡ take 64 (to.working ++ rest)
 
   -- the calls of a history lead from a blank sheet and any memory to these contents and this memory
   abbrev pub Run : History → Contents → List (Record K) → Type 0

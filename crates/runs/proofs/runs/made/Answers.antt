@@ -1,4 +1,4 @@
-use Rattle.std.proofs.Common.{◌≡◌, sym, refl, subst, rules, w64, to_z, of_z}
+use Rattle.std.proofs.Common.{sym, refl, subst, rules, w64, to_z, of_z}
 use Rattle.runs.proofs.Called.{moved_as, opened_as}
 use Rattle.runs.specs.Runs.{Made, state}
 use Rattle.sheet.specs.Contents.{contents}
