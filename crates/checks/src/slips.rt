@@ -29,7 +29,13 @@ fn words(rt: HostRuntime) {
         "centre",
         Problem::Expected("upper"),
     );
-    slips(&rt, heap, "move -1 lower 1 upper 2 centre 1", "-1", Problem::NoIndex);
+    slips(
+        &rt,
+        heap,
+        "move -1 lower 1 upper 2 centre 1",
+        "-1",
+        Problem::NoIndex,
+    );
     slips(
         &rt,
         heap,
