@@ -83,7 +83,7 @@ module _ {K : Type 0} (m : Model K) where
     pub answers : Answers h
     -- each held line has the record that the rules give it over the present box
     pub records : Recorded m s memory
-    -- and so the one that a fresh sheet gives it: with any 64 records as its memory there is a fresh sheet that takes all lines,
+    -- and so the one that a fresh sheet gives it: given 64 records to make it with, there is a fresh sheet that takes all lines,
     -- and every fresh sheet takes them and has the same records
     pub taken : (memory' : List (Record K)) → 64 ≤ length memory' → FreshRun s
     pub fresh : (h' : History) (s' : Contents) (memory' : List (Record K)) → Freshly s.over s.lines h' → Run m h' s' memory' → (s' ≡ s) × (fronts s memory' ≡ fronts s memory)
