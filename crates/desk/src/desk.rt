@@ -13,8 +13,9 @@ use runs::Answer;
 use script::{Call, Moving, Opening};
 use sheet::Sheet;
 use slope::Record;
-use span::Span;
 use std::alloc::{AllocError, Global};
+
+mod beginning;
 
 // How many working and spare lines there are to lend.
 pub const MEMORY: usize = 128;
@@ -73,19 +74,6 @@ fn moving(moving: Moving) -> runs::Call<'static> {
 }
 
 impl<K: Units> Desk<K> {
-    // A blank sheet; every line of the memory has U = U0 = [0] and no slopes.
-    pub fn blank() -> Desk<K> {
-        let nought = Span::point(K::zero());
-        let flat = Record::flat(nought, nought);
-        Desk {
-            sheet: Sheet::blank(),
-            working: [flat; 128],
-            spare: [flat; 128],
-            lent: 64,
-            lent_spare: 64,
-        }
-    }
-
     // From now on so many working and spare lines are lent.
     fn lend(&mut self, working: usize, spare: usize) {
         self.lent = working.min(MEMORY);

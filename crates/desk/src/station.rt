@@ -1,4 +1,6 @@
 // A station: a desk of the kind in use.
+ghost use Rattle.desk.specs.Begun.{BeginsAs};
+
 use crate::desk::Desk;
 use crate::windows::Refused;
 use fixed::Fixed;
@@ -15,7 +17,9 @@ pub enum Station {
 
 impl Station {
     // A blank sheet of a kind.
-    pub fn blank(kind: KindName) -> Station {
+    pub fn blank(kind: KindName) -> Station
+        ensures { BeginsAs kind result }
+    {
         match kind {
             KindName::Fixed => Station::Fixed(Desk::blank()),
             KindName::Sliding => Station::Sliding(Desk::blank()),
