@@ -9,6 +9,7 @@ mod counting;
 mod lending;
 mod moving;
 mod opening;
+mod parts;
 mod reading;
 mod reporting;
 mod striking;

@@ -1,0 +1,45 @@
+-- Every call leaves a box that open takes.
+use Rattle.std.proofs.Common.{◌≡◌, ℕ, List, length, ℤ, ◌∙◌, Ok, Err, Result, sym, refl, ap, subst}
+use Rattle.boxes.proofs.Proper.{moved_proper, opened_proper}
+use Rattle.boxes.specs.Boxes.{Box, Proper, opened}
+use Rattle.fault.specs.declared.fault.Fault.{Fault}
+use Rattle.kind.specs.Model.{Model}
+use Rattle.line.specs.declared.line.Line.{Line}
+use Rattle.runs.proofs.Inverse.{new_ok}
+use Rattle.runs.specs.Runs.{Made, State}
+use Rattle.runs.specs.declared.call.Answer.{Answer}
+use Rattle.runs.specs.declared.call.Call.{Call}
+use Rattle.runs.specs.declared.call.Call.TheVariants as calls
+use Rattle.runs.specs.declared.call.Moving.{Moving}
+use Rattle.sheet.specs.Calls.{grown, reopened}
+use Rattle.sheet.specs.Contents.{Contents}
+use Rattle.sheet.specs.Moving.{new_box, shifted}
+use Rattle.sheet.specs.Reading.{filled, read_onto}
+use Rattle.slope.specs.declared.record.Record.{Record}
+
+grown_over : {R : Type 0} (s : Contents) (line : Line) (made : Result R Fault) → (grown s line made).over ≡ s.over
+grown_over s line (Ok r) = refl
+grown_over s line (Err e) = refl
+
+filled_over : (s : Contents) (r : Result (Unit {0}) Fault) (ls : List Line) → (filled s r ls).over ≡ s.over
+filled_over s (Ok _) ls = refl
+filled_over s (Err e) ls = refl
+
+reopened_proper : (lower upper : List ℤ) (swept : ℕ) (centre : ℤ) (s : Contents) (over : Result Box Fault) → opened lower upper swept centre ≡ over → Proper s.over → Proper (reopened s over).over
+reopened_proper lower upper swept centre s (Ok b) e p = opened_proper lower upper swept centre e
+reopened_proper lower upper swept centre s (Err f) e p = p
+
+shifted_proper : (s : Contents) (lent spare : ℕ) (v : Moving) (over : Result Box Fault) (r : Result (Unit {0}) Fault) → new_box s lent spare v.channel v.lower v.upper v.centre ≡ over → Proper s.over → Proper (shifted s over r).over
+shifted_proper s lent spare v (Ok b) (Ok _) e p = moved_proper s.over v.channel v.lower v.upper v.centre (new_ok s lent spare v.channel v.lower v.upper v.centre e) p
+shifted_proper s lent spare v (Ok b) (Err _) e p = p
+shifted_proper s lent spare v (Err f) r e p = p
+
+module _ {K : Type 0} (m : Model K) (x y : State K) (a : Result Answer Fault) where
+  pub made_proper : (c : Call) → Made m x y a c → Proper x.sheet.over → Proper y.sheet.over
+  made_proper (calls.Open o) (r, ea, h, w, q, out) p = subst (λ s. Proper s.over) (sym h.sheet) (reopened_proper o.lower.now o.upper.now o.swept o.centre x.sheet (opened o.lower.now o.upper.now o.swept o.centre) refl p)
+  made_proper (calls.Add line) (r, ea, h, q, out) p = subst Proper (sym (ap (λ s. s.over) h.sheet ∙ grown_over x.sheet line h.made)) p
+  made_proper calls.Strike (r, ea, h, w, q, out) p = subst (λ s. Proper s.over) (sym h.sheet) p
+  made_proper (calls.Move v) (r, ea, h, out) p = subst (λ s. Proper s.over) (sym h.sheet) (shifted_proper x.sheet (length x.working) (length x.spare) v (new_box x.sheet (length x.working) (length x.spare) v.channel v.lower v.upper v.centre) r refl p)
+  made_proper (calls.Read bytes) (r, ea, h, q, out) p = subst Proper (sym (ap (λ s. s.over) h.sheet ∙ filled_over x.sheet r (read_onto m x.sheet (length x.working) bytes.now).lines)) p
+  made_proper calls.Write (r, ea, h, same, w, q) p = subst (λ s. Proper s.over) (sym same) p
+  made_proper (calls.Report line) (r, ea, h, same, w, q, out) p = subst (λ s. Proper s.over) (sym same) p

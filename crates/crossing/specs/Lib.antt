@@ -1,0 +1,4 @@
+pub mod Lines
+pub mod Marks
+pub mod Records
+pub mod Sheets

@@ -1,0 +1,14 @@
+// Sheets, records and lines as plain numbers in a caller's memory, as C has them, and the calls over that memory.
+#![tactic(auto)]
+
+mod boxed;
+mod lines;
+mod marks;
+mod means;
+mod memory;
+mod records;
+mod sheets;
+
+pub use marks::Crossing;
+pub use means::Means;
+pub use memory::{CAnswer, CBox, CLine, CMark, CRecord, CSheet, CSpan};

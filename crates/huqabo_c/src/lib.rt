@@ -1,0 +1,2 @@
+// The calls as C has them.
+#![tactic(auto)]
