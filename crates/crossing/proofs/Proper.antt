@@ -1,7 +1,13 @@
--- Every call leaves a box that open takes.
-use Rattle.std.proofs.Common.{◌≡◌, ℕ, List, length, ℤ, ◌∙◌, Ok, Err, Result, sym, refl, ap, subst}
-use Rattle.boxes.proofs.Proper.{moved_proper, opened_proper}
+-- The box of a sheet in memory is one that open takes, and every call leaves such a box.
+use Rattle.std.proofs.Common.{◌≡◌, ℕ, Bool, true, false, cond, nat_lt, List, length, take, ℤ, ◌∙◌, Ok, Err, Result, sym, refl, ap, subst}
+use Rattle.boxes.proofs.Proper.{blank_proper, moved_proper, opened_proper}
 use Rattle.boxes.specs.Boxes.{Box, Proper, opened}
+use Rattle.crossing.specs.Sheets.{box_in, lines_in, sheet_of, sheet_over}
+use Rattle.crossing.specs.declared.memory.CBox.{CBox}
+use Rattle.crossing.specs.declared.memory.CSheet.{CSheet}
+use Rattle.fault.proofs.Steps.{err_ok}
+use Rattle.fault.specs.Refusals.{refused}
+use Rattle.fault.specs.declared.fault.Cause.TheVariants.{Channels}
 use Rattle.fault.specs.declared.fault.Fault.{Fault}
 use Rattle.kind.specs.Model.{Model}
 use Rattle.line.specs.declared.line.Line.{Line}
@@ -12,7 +18,7 @@ use Rattle.runs.specs.declared.call.Call.{Call}
 use Rattle.runs.specs.declared.call.Call.TheVariants as calls
 use Rattle.runs.specs.declared.call.Moving.{Moving}
 use Rattle.sheet.specs.Calls.{grown, reopened}
-use Rattle.sheet.specs.Contents.{Contents}
+use Rattle.sheet.specs.Contents.{Contents, blank}
 use Rattle.sheet.specs.Moving.{new_box, shifted}
 use Rattle.sheet.specs.Reading.{filled, read_onto}
 use Rattle.slope.specs.declared.record.Record.{Record}
@@ -34,6 +40,26 @@ shifted_proper s lent spare v (Ok b) (Ok _) e p = moved_proper s.over v.channel 
 shifted_proper s lent spare v (Ok b) (Err _) e p = p
 shifted_proper s lent spare v (Err f) r e p = p
 
+-- ---- sheets in memory
+box_proper : (c : CBox) {b : Box} → box_in c ≡ Ok b → Proper b
+box_proper c {b} = go (nat_lt 8 c.channels)
+  where
+    go : (t : Bool) → cond t (refused Channels 0) (opened (take c.channels c.lower) (take c.channels c.upper) c.swept c.centre) ≡ Ok b → Proper b
+    go true e = absurd (err_ok e)
+    go false e = opened_proper (take c.channels c.lower) (take c.channels c.upper) c.swept c.centre e
+
+pub sheet_proper : (s : CSheet) → Proper (sheet_of s).over
+sheet_proper s = go (box_in s.over) refl
+  where
+    held : (b : Box) → Proper b → (t : Bool) → Proper (cond t blank (record { over = b; lines = lines_in s })).over
+    held b p true = blank_proper
+    held b p false = p
+
+    go : (o : Result Box Fault) → box_in s.over ≡ o → Proper (sheet_over s o).over
+    go (Ok b) e = held b (box_proper s.over e) (nat_lt 64 s.held)
+    go (Err f) e = blank_proper
+
+-- ---- calls
 module _ {K : Type 0} (m : Model K) (x y : State K) (a : Result Answer Fault) where
   pub made_proper : (c : Call) → Made m x y a c → Proper x.sheet.over → Proper y.sheet.over
   made_proper (calls.Open o) (r, ea, h, w, q, out) p = subst (λ s. Proper s.over) (sym h.sheet) (reopened_proper o.lower.now o.upper.now o.swept o.centre x.sheet (opened o.lower.now o.upper.now o.swept o.centre) refl p)

@@ -2,3 +2,5 @@ pub mod Lines
 pub mod Marks
 pub mod Records
 pub mod Sheets
+pub mod Memory
+pub mod Answers
