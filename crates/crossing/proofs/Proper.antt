@@ -17,7 +17,7 @@ use Rattle.runs.specs.declared.call.Answer.{Answer}
 use Rattle.runs.specs.declared.call.Call.{Call}
 use Rattle.runs.specs.declared.call.Call.TheVariants as calls
 use Rattle.runs.specs.declared.call.Moving.{Moving}
-use Rattle.sheet.specs.Calls.{grown, reopened}
+use Rattle.sheet.specs.Calls.{Opened, Struck, grown, reopened}
 use Rattle.sheet.specs.Contents.{Contents, blank}
 use Rattle.sheet.specs.Moving.{new_box, shifted}
 use Rattle.sheet.specs.Reading.{filled, read_onto}
@@ -59,12 +59,22 @@ sheet_proper s = go (box_in s.over) refl
     go (Ok b) e = held b (box_proper s.over e) (nat_lt 64 s.held)
     go (Err f) e = blank_proper
 
+-- a sheet that was taken from memory
+pub taken_proper : (c : CSheet) {s : Contents} → s ≡ sheet_of c → Proper s.over
+taken_proper c e = subst (λ s. Proper s.over) (sym e) (sheet_proper c)
+
 -- ---- calls
+pub open_proper : {lower upper : List ℤ} {swept : ℕ} {centre : ℤ} (s s' : Contents) {r : Result (Unit {0}) Fault} → Opened lower upper swept centre s r s' → Proper s.over → Proper s'.over
+open_proper {lower} {upper} {swept} {centre} s s' h p = subst (λ s. Proper s.over) (sym h.sheet) (reopened_proper lower upper swept centre s (opened lower upper swept centre) refl p)
+
+pub strike_proper : (s s' : Contents) {r : Result (Unit {0}) Fault} → Struck s r s' → Proper s.over → Proper s'.over
+strike_proper s s' h p = subst (λ s. Proper s.over) (sym h.sheet) p
+
 module _ {K : Type 0} (m : Model K) (x y : State K) (a : Result Answer Fault) where
   pub made_proper : (c : Call) → Made m x y a c → Proper x.sheet.over → Proper y.sheet.over
-  made_proper (calls.Open o) (r, ea, h, w, q, out) p = subst (λ s. Proper s.over) (sym h.sheet) (reopened_proper o.lower.now o.upper.now o.swept o.centre x.sheet (opened o.lower.now o.upper.now o.swept o.centre) refl p)
+  made_proper (calls.Open o) (r, ea, h, w, q, out) p = open_proper x.sheet y.sheet h p
   made_proper (calls.Add line) (r, ea, h, q, out) p = subst Proper (sym (ap (λ s. s.over) h.sheet ∙ grown_over x.sheet line h.made)) p
-  made_proper calls.Strike (r, ea, h, w, q, out) p = subst (λ s. Proper s.over) (sym h.sheet) p
+  made_proper calls.Strike (r, ea, h, w, q, out) p = strike_proper x.sheet y.sheet h p
   made_proper (calls.Move v) (r, ea, h, out) p = subst (λ s. Proper s.over) (sym h.sheet) (shifted_proper x.sheet (length x.working) (length x.spare) v (new_box x.sheet (length x.working) (length x.spare) v.channel v.lower v.upper v.centre) r refl p)
   made_proper (calls.Read bytes) (r, ea, h, q, out) p = subst Proper (sym (ap (λ s. s.over) h.sheet ∙ filled_over x.sheet r (read_onto m x.sheet (length x.working) bytes.now).lines)) p
   made_proper calls.Write (r, ea, h, same, w, q) p = subst (λ s. Proper s.over) (sym same) p

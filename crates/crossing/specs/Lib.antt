@@ -4,3 +4,4 @@ pub mod Records
 pub mod Sheets
 pub mod Memory
 pub mod Answers
+pub mod Calls

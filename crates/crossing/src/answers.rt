@@ -1,6 +1,8 @@
 // Answers as C has them.
 ghost use Rattle.std.specs.Prelude.{◌≡◌, pos};
 ghost use Rattle.crossing.specs.Answers.{answered};
+ghost use Rattle.runs.specs.Runs.{handed};
+ghost use Rattle.runs.specs.declared.call.Answer.TheVariants as answers;
 
 use crate::memory::CAnswer;
 use fault::Fault;
@@ -32,4 +34,11 @@ pub(crate) fn answer(answer: Result<Answer, Fault>) -> CAnswer
             ..ACCEPTED
         },
     }
+}
+
+// What a report answers.
+pub(crate) fn reported(report: Result<Report, Fault>) -> CAnswer
+    ensures { result ≡ answered (handed answers.Report report) }
+{
+    answer(report.map(|r| Answer::Report(r)))
 }
