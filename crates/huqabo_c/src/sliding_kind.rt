@@ -1,0 +1,85 @@
+// The calls at the sliding kind.
+ghost use Rattle.crossing.specs.Calls.{Adds, Moves, Opens, Reads, Reports, Strikes, Writes};
+ghost use Rattle.crossing.specs.Marks.{sliding_of};
+ghost use Rattle.sliding.specs.Grid.{sliding_model};
+
+use crossing::{CAnswer, CLine, CRecord, CSheet, Room};
+use sliding::Sliding;
+use runs::Moving;
+
+#[unsafe(no_mangle)]
+pub extern "C" fn huqabo_sliding_open(
+    sheet: &mut CSheet,
+    lower: &[i64],
+    upper: &[i64],
+    swept: usize,
+    centre: i64,
+) -> CAnswer
+    ensures { Opens lower.now upper.now swept centre sheet.old result sheet.new }
+{
+    crossing::open(sheet, lower, upper, swept, centre)
+}
+
+#[unsafe(no_mangle)]
+pub extern "C" fn huqabo_sliding_add(
+    sheet: &mut CSheet,
+    working: &mut [CRecord],
+    line: &CLine,
+) -> CAnswer
+    ensures { Adds sliding_model sliding_of line.now sheet.old working.old result sheet.new working.new }
+{
+    crossing::add(sheet, working, &mut Room::<Sliding>::blank(), *line)
+}
+
+#[unsafe(no_mangle)]
+pub extern "C" fn huqabo_sliding_strike(sheet: &mut CSheet) -> CAnswer
+    ensures { Strikes sheet.old result sheet.new }
+{
+    crossing::strike(sheet)
+}
+
+#[unsafe(no_mangle)]
+pub extern "C" fn huqabo_sliding_move(
+    sheet: &mut CSheet,
+    working: &mut [CRecord],
+    spare: &mut [CRecord],
+    channel: usize,
+    lower: i64,
+    upper: i64,
+    centre: i64,
+) -> CAnswer
+    ensures { Moves sliding_model sliding_of channel lower upper centre sheet.old working.old spare.old result sheet.new working.new spare.new }
+{
+    let moving = Moving {
+        channel,
+        lower,
+        upper,
+        centre,
+    };
+    crossing::move_channel(sheet, working, spare, &mut Room::<Sliding>::blank(), moving)
+}
+
+#[unsafe(no_mangle)]
+pub extern "C" fn huqabo_sliding_read(
+    sheet: &mut CSheet,
+    working: &mut [CRecord],
+    bytes: &[u8],
+) -> CAnswer
+    ensures { Reads sliding_model sliding_of bytes.now sheet.old working.old result sheet.new working.new }
+{
+    crossing::read(sheet, working, &mut Room::<Sliding>::blank(), bytes)
+}
+
+#[unsafe(no_mangle)]
+pub extern "C" fn huqabo_sliding_write(sheet: &CSheet, out: &mut [u8]) -> CAnswer
+    ensures { Writes sheet.now out.old result out.new }
+{
+    crossing::write(sheet, out)
+}
+
+#[unsafe(no_mangle)]
+pub extern "C" fn huqabo_sliding_report(sheet: &CSheet, working: &[CRecord], line: usize) -> CAnswer
+    ensures { Reports sliding_model sliding_of line sheet.now working.now result }
+{
+    crossing::report(sheet, working, &mut Room::<Sliding>::blank(), line)
+}
