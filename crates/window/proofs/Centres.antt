@@ -1,5 +1,5 @@
 -- A centre is looked at only where the ends of its channel are counts.
-use Rattle.std.proofs.Common.{◌≡◌, ◌==◌, Bool, true, false, cond, not, ◌||◌, nat_lt, List, [], ◌∷◌, length, ℤ, pos, ◌+ℤ◌, Some, Ok, Result, refl, ap}
+use Rattle.std.proofs.Common.{◌≡◌, ◌==◌, Bool, true, false, cond, not, ◌||◌, nat_lt, List, [], ◌∷◌, length, ℤ, pos, ◌+ℤ◌, Some, Ok, Result, refl, ap, ◌∙◌}
 use Rattle.std.specs.Int.{int_div_euclid}
 use Rattle.std.specs.List.{slice_get}
 use Rattle.boxes.specs.Boxes.{Box, centred, is_count, opened, ordered, ranges}
@@ -21,10 +21,10 @@ module _ (l u : ℤ) (ls us : List ℤ) where
   alike true false x y h = refl
   alike false b x y h = refl
 
--- a centre that is the midpoint of counts
-pub by_midpoint : (lower upper : List ℤ) (x : ℤ)
-    → ((l u : ℤ) → slice_get lower 0 ≡ Some l → slice_get upper 0 ≡ Some u → is_count l ≡ true → is_count u ≡ true → x ≡ int_div_euclid (l +ℤ u) (pos 2))
+-- a centre x that is the midpoint n of counts
+pub by_midpoint : (lower upper : List ℤ) (n : ℤ) {x : ℤ} → x ≡ n
+    → ((l u : ℤ) → slice_get lower 0 ≡ Some l → slice_get upper 0 ≡ Some u → is_count l ≡ true → is_count u ≡ true → n ≡ int_div_euclid (l +ℤ u) (pos 2))
     → opened lower upper 0 x ≡ swept_about lower upper
-by_midpoint [] upper x h = refl
-by_midpoint (l ∷ ls) [] x h = refl
-by_midpoint (l ∷ ls) (u ∷ us) x h = alike l u ls us (is_count l) (is_count u) x (int_div_euclid (l +ℤ u) (pos 2)) (h l u refl refl)
+by_midpoint [] upper n e h = refl
+by_midpoint (l ∷ ls) [] n e h = refl
+by_midpoint (l ∷ ls) (u ∷ us) n {x} e h = alike l u ls us (is_count l) (is_count u) x (int_div_euclid (l +ℤ u) (pos 2)) (λ a b. e ∙ h l u refl refl a b)

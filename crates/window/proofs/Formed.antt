@@ -20,7 +20,7 @@ module _ {K : Type 0} (m : Model K) where
   onto_empty : (b : Box) (lent : ℕ) (bytes : List ℕ) → read_onto m (sheet_of b []) lent bytes ≡ read_over m b lent bytes
   onto_empty b lent bytes = go (nat_lt lent 64)
     where
-      go : (t : Bool) → cond t (ends (refused Lines 0) [] []) (read_formula m b bytes) ≡ goes_on (cond t (refused Lines 0) (Ok tt)) [] [] (λ _. read_formula m b bytes)
+      go : (t : Bool) → cond t (ends (refused Lines 0) [] []) (read_formula m b bytes) ≡ goes_on (cond t (refused Lines 0) (Ok (tt {0}))) [] [] (λ _. read_formula m b bytes)
       go true = refl
       go false = refl
 

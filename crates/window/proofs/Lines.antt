@@ -1,7 +1,8 @@
 -- Reporting a line of the formula that was read.
-use Rattle.std.proofs.Common.{◌≡◌, ℕ, ◌+◌, ◌≤◌, Bool, true, false, cond, nat_lt, List, [], ◌++◌, length, take, drop, Ok, Err, Result, sym, refl, ap, ap₂, ◌∙◌, subst, arith, length-append, length-drop}
+use Rattle.std.proofs.Common.{◌≡◌, ℕ, ◌+◌, ◌≤◌, Bool, true, false, cond, nat_lt, List, [], ◌++◌, length, take, drop, IsErrAnd, Ok, Err, Result, sym, refl, ap, ap₂, ◌∙◌, subst, arith, length-append, length-drop}
 use Rattle.std.proofs.Math.Seq.{take-append_seam}
 use Rattle.std.proofs.lemmas.Bool.{ltb-false}
+use Rattle.std.proofs.lemmas.Result.{err_from_is_err_and}
 use Rattle.boxes.specs.Boxes.{Box}
 use Rattle.fault.proofs.Steps.{err_is, err_ok}
 use Rattle.fault.specs.Refusals.{refused}
@@ -22,6 +23,10 @@ use Rattle.window.specs.Windows.{Leaves, at_step, chosen, formed, read_over}
 use Rattle.window.specs.declared.refused.Refused.{Refused}
 use Rattle.window.specs.declared.refused.Step.TheVariants as steps
 
+-- what a refused step returns
+pub exit : {X : Type 0} (r : Result X Refused) {e : Refused} {F : Result X Refused} → IsErrAnd r (λ y. y ≡ e) → Err e ≡ F → r ≡ F
+exit r b q = let p = err_from_is_err_and r b in p.1 ∙ ap Err p.2 ∙ q
+
 -- an accepted read
 ok_step : (a : Result (Unit {0}) Fault) → at_step steps.Read a Ok ≡ Ok tt → a ≡ Ok tt
 ok_step (Ok u) e = refl
@@ -34,13 +39,14 @@ module _ {K : Type 0} (m : Model K) where
     few : length o.lines ≤ 64
     room : 64 ≤ lent
 
+  -- whether too few are lent
+  abbrev read_by : Box → List ℕ → Bool → Outcome K
+  read_by b bytes few = goes_on (cond few (refused Lines 0) (Ok (tt {0}))) [] [] (λ _. read_formula m b bytes)
+
   whole : (b : Box) (lent : ℕ) (bytes : List ℕ) → (read_over m b lent bytes).answer ≡ Ok tt → Whole b lent (read_over m b lent bytes)
   whole b lent bytes e = go (nat_lt lent 64) refl e
     where
-      abbrev over : Bool → Outcome K
-      over t = goes_on (cond t (refused Lines 0) (Ok tt)) [] [] (λ _. read_formula m b bytes)
-
-      go : (t : Bool) → nat_lt lent 64 ≡ t → (over t).answer ≡ Ok tt → Whole b lent (over t)
+      go : (t : Bool) → nat_lt lent 64 ≡ t → (read_by b bytes t).answer ≡ Ok (tt {0}) → Whole b lent (read_by b bytes t)
       go true h q = absurd (err_ok q)
       go false h q = let k = formula_ok m b bytes q in record { made = k.1; few = k.2; room = ltb-false lent 64 h }
 

@@ -51,10 +51,9 @@ pub(crate) fn open<K: NumberKind>(
     ensures call { (r : Result (Unit {0}) Fault) × (result ≡ at_step steps.Open r Ok) × Opened over.entry.lower.now over.entry.upper.now over.entry.swept over.entry.centre (contents sheet.old) r (contents sheet.new) }
     ensures working { working.new ≡ working.old }
 {
-    taken(
-        Step::Open,
-        make(sheet, working, &mut [], &mut [], Call::Open(over)),
-    )
+    let mut spare: [Record<K>; 0] = [];
+    let answer = make(sheet, working, &mut spare, &mut [], Call::Open(over));
+    taken(Step::Open, answer)
 }
 
 pub(crate) fn read<K: NumberKind>(
@@ -64,10 +63,9 @@ pub(crate) fn read<K: NumberKind>(
 ) -> Result<(), Refused>
     ensures { (r : Result (Unit {0}) Fault) × (result ≡ at_step steps.Read r Ok) × Read K.NumberKind.model formula.now (contents sheet.old) working.old r (contents sheet.new) working.new }
 {
-    taken(
-        Step::Read,
-        make(sheet, working, &mut [], &mut [], Call::Read(formula)),
-    )
+    let mut spare: [Record<K>; 0] = [];
+    let answer = make(sheet, working, &mut spare, &mut [], Call::Read(formula));
+    taken(Step::Read, answer)
 }
 
 // The report of a line, where the working lines have the records of the held lines.
@@ -80,5 +78,7 @@ pub(crate) fn report_of<K: NumberKind>(
     ensures sheet { contents sheet.new ≡ contents sheet.old }
     ensures working { working.new ≡ working.old }
 {
-    reported(make(sheet, working, &mut [], &mut [], Call::Report(line)))
+    let mut spare: [Record<K>; 0] = [];
+    let answer = make(sheet, working, &mut spare, &mut [], Call::Report(line));
+    reported(answer)
 }

@@ -62,6 +62,17 @@ fn midpoint(lower: &[i64], upper: &[i64]) -> i64
     half(l.saturating_add(*u))
 }
 
+fn swept<'a>(lower: &'a [i64], upper: &'a [i64]) -> Opening<'a>
+    ensures { given result ≡ swept_about lower.now upper.now }
+{
+    Opening {
+        lower,
+        upper,
+        swept: 0,
+        centre: midpoint(lower, upper),
+    }
+}
+
 // The same over the box of these ends, with channel 0 swept about its midpoint, for the last line of the formula.
 pub fn last_over<K: NumberKind>(
     sheet: &mut Sheet,
@@ -73,12 +84,7 @@ pub fn last_over<K: NumberKind>(
     ensures answer { result ≡ windows.last_over K.NumberKind.model lower.now upper.now (length working.old) formula.now }
     ensures leaves { Leaves K.NumberKind.model (swept_about lower.now upper.now) formula.now (contents sheet.old) working.old (contents sheet.new) working.new }
 {
-    let over = Opening {
-        lower,
-        upper,
-        swept: 0,
-        centre: midpoint(lower, upper),
-    };
+    let over = swept(lower, upper);
     formed(sheet, working, over, formula)?;
     let last = sheet.held().saturating_sub(1);
     report_of(sheet, working, last)
