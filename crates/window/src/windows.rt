@@ -1,5 +1,5 @@
 // A line of a formula over a box.
-ghost use Rattle.std.specs.Prelude.{◌≡◌, ◌+ℤ◌, Some, length, pos, true, ℤ};
+ghost use Rattle.std.specs.Prelude.{◌≡◌, ◌-◌, ◌+ℤ◌, Some, length, pos, true, ℤ};
 ghost use Rattle.std.specs.Int.{int_div_euclid};
 ghost use Rattle.std.specs.List.{slice_get};
 ghost use Rattle.boxes.specs.Boxes.{is_count};
@@ -73,6 +73,13 @@ fn swept<'a>(lower: &'a [i64], upper: &'a [i64]) -> Opening<'a>
     }
 }
 
+// The last line, or line 0 where there is none.
+fn last(sheet: &Sheet) -> usize
+    ensures { result ≡ length (contents sheet.now).lines - 1 }
+{
+    sheet.held().saturating_sub(1)
+}
+
 // The same over the box of these ends, with channel 0 swept about its midpoint, for the last line of the formula.
 pub fn last_over<K: NumberKind>(
     sheet: &mut Sheet,
@@ -86,6 +93,6 @@ pub fn last_over<K: NumberKind>(
 {
     let over = swept(lower, upper);
     formed(sheet, working, over, formula)?;
-    let last = sheet.held().saturating_sub(1);
-    report_of(sheet, working, last)
+    let line = last(sheet);
+    report_of(sheet, working, line)
 }

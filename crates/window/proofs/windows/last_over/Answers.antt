@@ -21,7 +21,7 @@ returns-clause-answer g c =
     line_is g.K.NumberKind.model (swept_about a.lower.now a.upper.now) a.formula.now (λ ls. length ls - 1)
     (subst (λ b. Leaves g.K.NumberKind.model b a.formula.now (contents a.sheet.now) a.working.now (contents c.formed.new.sheet) c.formed.new.working) c.swept-over.ensures c.formed.ensures.leaves)
     (c.formed.ensures.answer ∙ ap (λ b. formed g.K.NumberKind.model b (length a.working.now) a.formula.now) c.swept-over.ensures) c.in_ok-formed.was
-    (c.saturating_sub-last.ensures ∙ ap (λ k. k - 1) c.held.ensures) c.report_of.ensures.answer
+    c.last-line.ensures c.report_of.ensures.answer
 
 pub returns-clause-leaves : goal.returns-clause-leaves
 returns-clause-leaves g c =
