@@ -62,6 +62,7 @@ fn midpoint(lower: &[i64], upper: &[i64]) -> i64
     half(l.saturating_add(*u))
 }
 
+// The box of these ends, with channel 0 swept about its midpoint.
 fn swept<'a>(lower: &'a [i64], upper: &'a [i64]) -> Opening<'a>
     ensures { given result ≡ swept_about lower.now upper.now }
 {
@@ -80,7 +81,7 @@ fn last(sheet: &Sheet) -> usize
     sheet.held().saturating_sub(1)
 }
 
-// The same over the box of these ends, with channel 0 swept about its midpoint, for the last line of the formula.
+// The same for the last line of the formula, over the box of these ends with channel 0 swept about its midpoint, rounded down.
 pub fn last_over<K: NumberKind>(
     sheet: &mut Sheet,
     working: &mut [Record<K>],
