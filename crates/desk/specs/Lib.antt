@@ -1,2 +1,2 @@
-pub mod Answered
 pub mod Begun
+pub mod Windows

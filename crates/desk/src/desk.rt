@@ -1,10 +1,9 @@
 // The desk of one kind.
-ghost use Rattle.std.specs.Prelude.{◌≤◌};
-ghost use Rattle.desk.specs.Answered.{Reports};
+ghost use Rattle.std.specs.Prelude.{◌≡◌, ◌≤◌};
+ghost use Rattle.window.specs.Windows.{last_over};
 
 use crate::answers::told;
 use crate::texts::Held;
-use crate::windows::Refused;
 use fault::Fault;
 use kind::NumberKind;
 use marks::Units;
@@ -14,6 +13,7 @@ use script::{Call, Moving, Opening};
 use sheet::Sheet;
 use slope::Record;
 use std::alloc::{AllocError, Global};
+use window::Refused;
 
 mod beginning;
 
@@ -47,14 +47,6 @@ fn held<K: Units>(
     format!(in heap; "{call} {line}: {held}")
 }
 
-// The midpoint of channel 0, rounded down. Ends that are no counts, or no channel at all, are refused before it is read.
-fn midpoint(lower: &[i64], upper: &[i64]) -> i64 {
-    let (Some(l), Some(u)) = (lower.first(), upper.first()) else {
-        return 0;
-    };
-    l.saturating_add(*u).div_euclid(2)
-}
-
 fn opening(opening: &Opening) -> runs::Call<'_> {
     runs::Call::Open(runs::Opening {
         lower: opening.counts.lower.as_slice(),
@@ -80,10 +72,8 @@ impl<K: Units> Desk<K> {
         self.lent_spare = spare.min(MEMORY);
     }
 
-    // Makes a call on the sheet with what is lent. Every call on it is made here.
-    fn make(&mut self, out: &mut [u8], call: runs::Call<'_>) -> Result<Answer, Fault>
-        ensures { Reports call.entry result }
-    {
+    // Makes a call on the sheet with what is lent. Every call of a script is made here.
+    fn make(&mut self, out: &mut [u8], call: runs::Call<'_>) -> Result<Answer, Fault> {
         runs::make(
             &mut self.sheet,
             &mut self.working[..self.lent],
@@ -155,41 +145,18 @@ impl<K: Units> Desk<K> {
 }
 
 impl<K: Units> Desk<K> {
-    // The range of a line.
-    fn range(&mut self, line: usize) -> Result<Report, Fault> {
-        match self.make(&mut [], runs::Call::Report(line))? {
-            Answer::Report(report) => Ok(report),
-            _ => unreachable!(),
-        }
-    }
-
-    // Opens a box with channel 0 swept about the midpoint of its range, reads a formula and reports its last line.
+    // Opens a box with channel 0 swept about the midpoint of its range, reads a formula and reports its last line. What the sheet and the
+    // memory held before has no part in the answer.
     pub fn window(
         &mut self,
         formula: &[u8],
         lower: &[i64],
         upper: &[i64],
-    ) -> Result<Report, Refused> {
-        let over = runs::Opening {
-            lower,
-            upper,
-            swept: 0,
-            centre: midpoint(lower, upper),
-        };
-        self.make(&mut [], runs::Call::Open(over))
-            .map_err(|fault| Refused {
-                call: "open",
-                fault,
-            })?;
-        self.make(&mut [], runs::Call::Read(formula))
-            .map_err(|fault| Refused {
-                call: "read",
-                fault,
-            })?;
-        let last = self.sheet.held().saturating_sub(1);
-        self.range(last).map_err(|fault| Refused {
-            call: "report",
-            fault,
-        })
+    ) -> Result<Report, Refused>
+        ensures answer { result ≡ last_over K.NumberKind.model lower.now upper.now self.old.lent formula.now }
+        ensures lent { self.new.lent ≡ self.old.lent }
+    {
+        let working = &mut self.working[..self.lent];
+        window::last_over(&mut self.sheet, working, lower, upper, formula)
     }
 }

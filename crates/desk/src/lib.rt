@@ -5,7 +5,5 @@ mod answers;
 mod desk;
 mod station;
 mod texts;
-mod windows;
 
 pub use station::Station;
-pub use windows::Refused;

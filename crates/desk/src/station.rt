@@ -1,13 +1,15 @@
 // A station: a desk of the kind in use.
+ghost use Rattle.std.specs.Prelude.{◌≡◌};
 ghost use Rattle.desk.specs.Begun.{BeginsAs};
+ghost use Rattle.desk.specs.Windows.{Stays, window_of};
 
 use crate::desk::Desk;
-use crate::windows::Refused;
 use fixed::Fixed;
 use report::Report;
 use script::{Call, KindName};
 use sliding::Sliding;
 use std::alloc::{AllocError, Global};
+use window::Refused;
 
 #[derive(Drop)]
 pub enum Station {
@@ -37,13 +39,16 @@ impl Station {
         }
     }
 
-    // Opens a window's box, reads the formula and reports its last line.
+    // Opens a window's box, reads the formula and reports its last line, in the kind in use.
     pub fn window(
         &mut self,
         formula: &[u8],
         lower: &[i64],
         upper: &[i64],
-    ) -> Result<Report, Refused> {
+    ) -> Result<Report, Refused>
+        ensures answer { result ≡ window_of self.old lower.now upper.now formula.now }
+        ensures stays { Stays self.old self.new }
+    {
         match self {
             Station::Fixed(desk) => desk.window(formula, lower, upper),
             Station::Sliding(desk) => desk.window(formula, lower, upper),

@@ -1,11 +1,12 @@
 // The windows of a station: the last line of a formula is reported for each.
 use crate::stop::{Place, Stop, misused, slipped, unopened, unread};
-use desk::{Refused, Station};
+use desk::Station;
 use report::Report;
 use script::{KindName, Problem, append_bytes, counts_of};
 use std::alloc::Global;
 use std::io::{BufRead, BufReader};
 use std::{fmt, fs};
+use window::Refused;
 
 // The formula of a file with bytes in hexadecimal. Lines that begin with # are passed over.
 pub fn formula_of<R: BufRead + Drop>(heap: Global, name: &str, file: R) -> Result<Vec<u8>, Stop> {

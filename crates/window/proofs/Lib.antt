@@ -1,0 +1,3 @@
+pub mod Centres
+pub mod Formed
+pub mod Lines
