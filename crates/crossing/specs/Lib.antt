@@ -5,3 +5,4 @@ pub mod Sheets
 pub mod Memory
 pub mod Answers
 pub mod Calls
+pub mod Windows

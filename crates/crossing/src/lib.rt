@@ -13,6 +13,7 @@ mod memory;
 mod plain;
 mod records;
 mod sheets;
+mod station;
 
 pub use calls::call;
 pub use each::{add, move_channel, read, report};
@@ -21,3 +22,4 @@ pub use means::Means;
 pub use plain::{open, strike, write};
 pub use memory::{CAnswer, CBox, CLine, CMark, CRecord, CSheet, CSpan};
 pub use room::Room;
+pub use station::windows;

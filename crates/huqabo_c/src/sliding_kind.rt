@@ -1,9 +1,11 @@
 // The calls at the sliding kind.
+ghost use Rattle.std.specs.Prelude.{◌≡◌, length, map, take, drop, min};
 ghost use Rattle.crossing.specs.Calls.{Adds, Moves, Opens, Reads, Reports, Strikes, Writes};
 ghost use Rattle.crossing.specs.Marks.{sliding_of};
+ghost use Rattle.crossing.specs.Windows.{window_answer};
 ghost use Rattle.sliding.specs.Grid.{sliding_model};
 
-use crossing::{CAnswer, CLine, CRecord, CSheet, Room};
+use crossing::{CAnswer, CBox, CLine, CRecord, CSheet, Room};
 use sliding::Sliding;
 use runs::Moving;
 
@@ -82,4 +84,18 @@ pub extern "C" fn huqabo_sliding_report(sheet: &CSheet, working: &[CRecord], lin
     ensures { Reports sliding_model sliding_of line sheet.now working.now result }
 {
     crossing::report(sheet, working, &mut Room::<Sliding>::blank(), line)
+}
+
+#[unsafe(no_mangle)]
+pub extern "C" fn huqabo_sliding_windows(
+    bytes: &[u8],
+    line: usize,
+    boxes: &[CBox],
+    answers: &mut [CAnswer],
+) -> usize
+    ensures count { result ≡ min (length boxes.now) (length answers.old) }
+    ensures answers { take result answers.new ≡ map (window_answer sliding_model bytes.now line) (take result boxes.now) }
+    ensures rest { drop result answers.new ≡ drop result answers.old }
+{
+    crossing::windows(bytes, line, boxes, answers, &mut Room::<Sliding>::blank())
 }
