@@ -1,2 +1,5 @@
 pub mod Proper
 pub mod Fronts
+pub mod ReadOnce
+pub mod Parsing
+pub mod Reported

@@ -6,6 +6,7 @@ mod boxed;
 mod calls;
 mod room;
 mod each;
+mod formula;
 mod lines;
 mod marks;
 mod means;
