@@ -3,3 +3,4 @@ pub mod Fronts
 pub mod ReadOnce
 pub mod Parsing
 pub mod Reported
+pub mod Window

@@ -13,6 +13,7 @@ use Rattle.kind.specs.Model.{Model}
 use Rattle.line.specs.declared.line.Line.{Line}
 use Rattle.report.specs.Reports.{reported}
 use Rattle.report.specs.declared.answer.Report.{Report}
+use Rattle.runs.specs.Runs.{handed}
 use Rattle.runs.specs.declared.call.Answer.TheVariants as answers
 use Rattle.sheet.specs.Moving.{remade}
 use Rattle.window.specs.Windows.{line_over}
@@ -27,6 +28,10 @@ abbrev pub report_over : {K : Type 0} → Model K → Box → List Line → ℕ 
 report_over m b ls line =
     after (remade m b ls [] []).answer (λ _.
     after (found NoLine line (slice_get (remade m b ls [] []).records line)) (λ r. Ok (reported m b r)))
+
+-- the same as C has it
+abbrev pub answer_in : {K : Type 0} → Model K → List Line → ℕ → CBox → CAnswer
+answer_in m ls line b = answered (handed answers.Report (after (box_in b) (λ b. report_over m b ls line)))
 
 -- a line of a formula over a box, with 64 working lines
 abbrev pub window_answer : {K : Type 0} → Model K → List ℕ → ℕ → CBox → CAnswer
