@@ -13,6 +13,7 @@ fn main() {
         println!("cargo::error=no archive {}: set HUQABO_LIB_DIR to its folder", archive.display());
         return;
     }
+    let folder = folder.canonicalize().expect("the archive's folder is there");
     println!("cargo::rerun-if-changed={}", archive.display());
     println!("cargo::rustc-link-search=native={}", folder.display());
     println!("cargo::rustc-link-lib=static={name}");
