@@ -77,3 +77,14 @@ impl Sheet {
     pub const BLANK: Self =
         Sheet { over: ChannelBox::BLANK, held: 0, lines: [Line { operation: 0, constant: 0, a: 0, b: 0, c: 0 }; LINES] };
 }
+
+/// The sizes that a C compiler gives these types on a machine of 64 bits.
+#[cfg(target_pointer_width = "64")]
+const _: () = {
+    assert!(size_of::<Mark>() == 8);
+    assert!(size_of::<Record>() == 84);
+    assert!(size_of::<Line>() == 40);
+    assert!(size_of::<ChannelBox>() == 152);
+    assert!(size_of::<Sheet>() == 2720);
+    assert!(size_of::<Answer>() == 40);
+};
