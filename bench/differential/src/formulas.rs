@@ -40,9 +40,12 @@ pub fn lines_on(random: &mut Random, kind: Kind, sizes: Sizes, over: &ChannelBox
     let mut memory = Memory::blank();
     memory.sheet.over = *over;
     let calls = kind.plain();
-    let (mut lines, mut tries) = (Vec::new(), 0);
+    let (mut lines, mut drawn, mut tries) = (Vec::new(), Vec::new(), 0);
     while lines.len() < count {
-        let line = Place::of(kind, sizes, &memory).line(random);
+        if drawn.is_empty() {
+            drawn = Place::of(kind, sizes, &memory).draw(random);
+        }
+        let Some(line) = drawn.pop() else { continue };
         let taken = Call::Add(line).make(&calls, &mut memory, Lent::USUAL).refusal == 0;
         tries += 1;
         if taken {

@@ -1,6 +1,6 @@
 //! Long runs of calls on memory that nobody else touches: sound and unsound calls, taken and refused, in any order.
 
-use plain::memory::{Answer, LINES};
+use plain::memory::{Answer, LINES, Line};
 
 use crate::boxes::Draft;
 use crate::call::{Call, Lent, Memory, ROOM};
@@ -29,6 +29,8 @@ pub fn run(random: &mut Random, log: &mut Log) -> Result<(), Difference> {
 struct History {
     pair: Pair,
     sizes: Sizes,
+    /// Lines that are to be added next, the last one first.
+    lines: Vec<Line>,
     /// Nothing is struck and no box opened while the sheet is to become full.
     filling: bool,
 }
@@ -40,7 +42,7 @@ impl History {
         if random.once_in(4) {
             spoil_all(random, kind, &mut memory, true);
         }
-        let mut history = History { pair: Pair::new(kind, memory), sizes, filling: false };
+        let mut history = History { pair: Pair::new(kind, memory), sizes, lines: Vec::new(), filling: false };
         if log.trace {
             println!("kind {}", kind.name());
         }
@@ -72,7 +74,7 @@ impl History {
         self.step(random, &call, log)
     }
 
-    fn next(&self, random: &mut Random) -> Call {
+    fn next(&mut self, random: &mut Random) -> Call {
         let held = self.pair.plain.sheet.held;
         let drawn = match self.filling {
             true => random.weighted(&[0, 90, 0, 4, 1, 2, 3]),
@@ -82,13 +84,21 @@ impl History {
         };
         match drawn {
             0 => Call::Open(self.draft(random)),
-            1 => Call::Add(Place::of(self.pair.kind, self.sizes, &self.pair.plain).line(random)),
+            1 => Call::Add(self.line(random)),
             2 => Call::Strike,
             3 => self.moving(random),
             4 => self.reading(random),
             5 => Call::Write { room: random.one_of(&[0, 1, 3, 40, 200, ROOM, ROOM, ROOM]) },
             _ => Call::Report { line: self.reported(random) },
         }
+    }
+
+    fn line(&mut self, random: &mut Random) -> Line {
+        let place = Place::of(self.pair.kind, self.sizes, &self.pair.plain);
+        self.lines.pop().unwrap_or_else(|| {
+            self.lines = place.draw(random);
+            self.lines.pop().unwrap_or_default()
+        })
     }
 
     fn draft(&self, random: &mut Random) -> Draft {

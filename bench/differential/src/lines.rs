@@ -5,7 +5,7 @@ use plain::memory::{LINES, Line, Record};
 use crate::call::Memory;
 use crate::library::Kind;
 use crate::meaning::order;
-use crate::numbers::{Sizes, any_size, beyond, wild};
+use crate::numbers::{GREATEST, Sizes, any_size, beyond, wild};
 use crate::random::Random;
 
 /// Where the lines of a case stand: what is held, and which records it has.
@@ -23,6 +23,45 @@ impl<'a> Place<'a> {
         let over = &memory.sheet.over;
         let held = memory.sheet.held.min(LINES);
         Place { kind, sizes, held, channels: over.channels, swept: over.swept, records: &memory.working }
+    }
+
+    /// A line, or a few that belong together, the last one first.
+    pub fn draw(&self, random: &mut Random) -> Vec<Line> {
+        let drawn = match random.below(100) {
+            0..=7 if self.held > 0 => self.edge(random),
+            8 if self.kind == Kind::Sliding => Some(self.greatest()),
+            _ => None,
+        };
+        drawn.unwrap_or_else(|| vec![self.line(random)])
+    }
+
+    /// A constant with which a line's end comes to the greatest mark, or close by, in a sum, product or quotient; and that operation.
+    fn edge(&self, random: &mut Random) -> Option<Vec<Line>> {
+        let (step, greatest) = match self.kind {
+            Kind::Fixed => (16, i128::from(GREATEST)),
+            Kind::Sliding => (24, 16_777_215 << 32),
+        };
+        let line = random.below(self.held);
+        let u = self.records[line].u;
+        let end = i128::from(order(self.kind, if random.once_in(2) { u.lower } else { u.upper }));
+        let operation = random.one_of(&[2, 3, 4, 4, 5, 5]);
+        let partner = match operation {
+            2 => greatest - end,
+            3 => end - greatest,
+            4 => (greatest << step).checked_div(end)?,
+            _ => (end << step) / greatest,
+        };
+        let partner = if random.once_in(2) { -partner } else { partner };
+        let constant = i64::try_from(partner >> (step - 16)).ok()? + random.between(-1, 1);
+        let constant = Line { operation: 1, constant, ..Line::default() };
+        Some(vec![Line { operation, a: line, b: self.held, ..Line::default() }, constant])
+    }
+
+    /// Lines whose last one is the greatest mark of the sliding kind, which no count comes near to.
+    fn greatest(&self) -> Vec<Line> {
+        let constant = |constant| Line { operation: 1, constant, ..Line::default() };
+        let product = |a, b| Line { operation: 4, a: self.held + a, b: self.held + b, ..Line::default() };
+        vec![product(2, 3), constant(32 << 16), product(0, 1), constant(8_192 << 16), constant(16_777_215 << 6)]
     }
 
     /// A line that is mostly sound, with anything in the fields that it does not need.

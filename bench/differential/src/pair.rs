@@ -76,8 +76,10 @@ impl Pair {
         if plain.over == tested.over && plain.held == tested.held && plain.lines[..held] == tested.lines[..held] {
             return Ok(());
         }
-        let (plain, tested) = (meaning::sheet(plain), meaning::sheet(tested));
-        if plain == tested {
+        let (meant, tested_meant) = (meaning::sheet(plain), meaning::sheet(tested));
+        // A line that is written anew stands in its one written form.
+        let written = |line: usize| plain.lines[line] == tested.lines[line] || meant.lines[line] == tested.lines[line];
+        if meant == tested_meant && (0..meant.held).all(written) {
             return Ok(());
         }
         Err(format!("the sheet\n  plain:  {}\n  tested: {}", show::sheet(&plain), show::sheet(&tested)))
@@ -89,11 +91,8 @@ impl Pair {
             return Ok(());
         }
         for (line, (plain, tested)) in plain.iter().zip(tested).enumerate() {
-            // What is not lent is not even written anew.
-            let alike = match line < LINES {
-                true => meaning::record(self.kind, plain) == meaning::record(self.kind, tested),
-                false => plain == tested,
-            };
+            // A record that is written anew stands in its one written form. What is not lent is not even written anew.
+            let alike = plain == tested || (line < LINES && meaning::record(self.kind, plain) == *tested);
             if !alike {
                 let (plain, tested) = (show::record(plain), show::record(tested));
                 return Err(format!("{name} line {line}\n  plain:  {plain}\n  tested: {tested}"));
