@@ -53,6 +53,9 @@ impl<'a> Place<'a> {
         };
         let partner = if random.once_in(2) { -partner } else { partner };
         let constant = i64::try_from(partner >> (step - 16)).ok()? + random.between(-1, 1);
+        if constant.abs() > GREATEST {
+            return None;
+        }
         let constant = Line { operation: 1, constant, ..Line::default() };
         Some(vec![Line { operation, a: line, b: self.held, ..Line::default() }, constant])
     }
