@@ -6,11 +6,11 @@ use crate::memory;
 
 /// A kind of numbers. *Below* is the greatest mark that is not above the exact result, *above* the least one that is not below it; both are
 /// absent where the exact result lies beyond the greatest mark.
-pub trait Kind: Copy {
+pub trait Kind: Copy + 'static {
     type Mark: Copy + Ord + Neg<Output = Self::Mark>;
 
     /// The product of two marks, exactly.
-    type Product: Copy + Ord + Neg<Output = Self::Product>;
+    type Product: Copy + PartialOrd + Neg<Output = Self::Product>;
 
     const ZERO: Self::Mark;
     const ONE: Self::Mark;
@@ -37,27 +37,27 @@ pub trait Kind: Copy {
 
     // The upward forms are the downward ones of the negatives.
 
-    #[inline]
+    #[inline(always)]
     fn sum_above(a: Self::Mark, b: Self::Mark) -> Option<Self::Mark> {
         Self::sum_below(-a, -b).map(Neg::neg)
     }
 
-    #[inline]
+    #[inline(always)]
     fn product_above(product: Self::Product) -> Option<Self::Mark> {
         Self::product_below(-product).map(Neg::neg)
     }
 
-    #[inline]
+    #[inline(always)]
     fn quotient_above(dividend: Self::Mark, divisor: Self::Mark) -> Option<Self::Mark> {
         Self::quotient_below(-dividend, divisor).map(Neg::neg)
     }
 
-    #[inline]
+    #[inline(always)]
     fn count_above(count: i64) -> Self::Mark {
         -Self::count_below(-count)
     }
 
-    #[inline]
+    #[inline(always)]
     fn whole_above(mark: Self::Mark) -> i64 {
         -Self::whole_below(-mark)
     }

@@ -25,7 +25,7 @@ impl<K: Kind> Slopes<K> {
     pub const SWEPT: Self = Slopes { a: Span::ONE, b: Span::ONE, c: Span::ZERO };
 
     /// Both, joined part by part; none where either has none.
-    #[inline]
+    #[inline(always)]
     pub fn joined(first: Option<Self>, second: Option<Self>, join: impl Fn(Span<K>, Span<K>) -> Option<Span<K>>) -> Option<Self> {
         let (p, q) = (first?, second?);
         Some(Slopes { a: join(p.a, q.a)?, b: join(p.b, q.b)?, c: join(p.c, q.c)? })
@@ -56,34 +56,34 @@ impl<K: Kind> Record<K> {
     }
 
     /// What does not change with the swept channel.
-    #[inline]
+    #[inline(always)]
     pub fn still(u: Span<K>) -> Self {
         Record { u, u0: u, slopes: Some(Slopes::STILL) }
     }
 
     /// The swept channel.
-    #[inline]
+    #[inline(always)]
     pub fn swept(u: Span<K>, u0: Span<K>) -> Self {
         Record { u, u0, slopes: Some(Slopes::SWEPT) }
     }
 
-    #[inline]
+    #[inline(always)]
     pub fn sum(u: &Self, v: &Self) -> Option<Self> {
         Self::part_by_part(u, v, Span::plus)
     }
 
-    #[inline]
+    #[inline(always)]
     pub fn difference(u: &Self, v: &Self) -> Option<Self> {
         Self::part_by_part(u, v, Span::minus)
     }
 
-    #[inline]
+    #[inline(always)]
     fn part_by_part(u: &Self, v: &Self, join: impl Fn(Span<K>, Span<K>) -> Option<Span<K>>) -> Option<Self> {
         Some(Record { u: join(u.u, v.u)?, u0: join(u.u0, v.u0)?, slopes: Slopes::joined(u.slopes, v.slopes, join) })
     }
 
     /// The first operand where it is never the lesser one, or else the second where it is never the lesser one.
-    #[inline]
+    #[inline(always)]
     pub fn greater(u: &Self, v: &Self) -> Self {
         if u.u.lower >= v.u.upper {
             *u
@@ -94,7 +94,7 @@ impl<K: Kind> Record<K> {
         }
     }
 
-    #[inline]
+    #[inline(always)]
     pub fn lesser(u: &Self, v: &Self) -> Self {
         if u.u.upper <= v.u.lower {
             *u
@@ -105,14 +105,14 @@ impl<K: Kind> Record<K> {
         }
     }
 
-    #[inline]
+    #[inline(always)]
     fn mixed(u: &Self, v: &Self, choose: impl Fn(Span<K>, Span<K>) -> Span<K>) -> Self {
         let slopes = Slopes::joined(u.slopes, v.slopes, |p, q| Some(p.hull(q)));
         Record { u: choose(u.u, v.u), u0: choose(u.u0, v.u0), slopes }
     }
 
     /// One operand or the other by the sign of the test. While the sign is open nothing bounds the slopes, for the value may jump.
-    #[inline]
+    #[inline(always)]
     pub fn branch(test: &Self, below: &Self, otherwise: &Self) -> Self {
         if test.u.is_below_zero() {
             return *below;
