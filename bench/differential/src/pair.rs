@@ -1,4 +1,4 @@
-//! Both libraries, each with its own memory of the same content: every call is made on both, and all that it answers and leaves is compared.
+//! Both libraries, each with its own memory of the same content: every call is made on both, and what it answers and leaves is compared.
 
 use plain::memory::{Answer, LINES, Record};
 

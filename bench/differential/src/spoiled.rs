@@ -1,7 +1,7 @@
 //! Calls on spoiled memory: records that no call made, sheets with damaged fields, lines that no add would take.
 //!
-//! What add and report make of records whose spans have crossed ends no page fixes. So there the two may answer apart, within what docs/CALLS.md
-//! says under "Spoiled working lines"; that is checked and counted. Everything else has to be alike.
+//! What add and report make of records whose spans have crossed ends no page fixes. So there the two may answer apart, within what
+//! docs/CALLS.md says under "Spoiled working lines"; that is checked and counted. Everything else has to be alike.
 
 use plain::memory::{Answer, LINES, Line, Sheet};
 

@@ -1,7 +1,7 @@
 //! Ranges of formulas over boxes of channel readings: the rules of `docs/`, written in ordinary Rust.
 //!
-//! It was written from the pages in `docs/` and the header `include/huqabo.h` alone, so that it can serve as a second opinion, and for speed,
-//! so that it can serve as a yardstick. Nothing allocates.
+//! It was written from the pages in `docs/` and the header `include/huqabo.h` alone, so that it can serve as a second opinion, and for
+//! speed, so that it can serve as a yardstick. Nothing allocates.
 //!
 //! - `memory`: the types of the header, as they lie in the caller's memory
 //! - `kind`, `fixed`, `sliding`: number kinds; `span`: spans of their marks

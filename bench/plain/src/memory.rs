@@ -1,5 +1,5 @@
-//! The types of `include/huqabo.h`, field by field: what lies in the caller's memory. Any content is possible; what it means is decided where
-//! it is decoded (`Kind::from_memory`, `Record::from_memory`, `Line::from_memory`, `calls::sound`).
+//! The types of `include/huqabo.h`, field by field: what lies in the caller's memory. Any content is possible; what it means is decided
+//! where it is decoded (`Kind::from_memory`, `Record::from_memory`, `Line::from_memory`, `calls::sound`).
 
 pub const LINES: usize = 64;
 pub const CHANNELS: usize = 8;
