@@ -1,0 +1,46 @@
+#include <stdio.h>
+
+#include "table.h"
+#include "tables.h"
+#include "timed.h"
+
+enum { MOST_SIZES = 8 };
+
+/* A table with a column for each size: the nanoseconds for a window of a formula of that size. */
+static int print_sizes(const settings *by, const char *what, const size_t *sizes, size_t count, formula (*make)(size_t)) {
+    static job all;
+    static answers answered;
+    static table out;
+    static timing times[MOST_SIZES][EVALUATORS];
+    char heads[MOST_SIZES][TABLE_CELL];
+    const char *titles[MOST_SIZES + 2] = {"evaluator", "kind"};
+    for (size_t i = 0; i < count; i++) {
+        const formula of = make(sizes[i]);
+        make_job(&all, &of);
+        if (!time_job(&all, by->rounds, by->milliseconds, times[i], answered)) {
+            return 0;
+        }
+        snprintf(heads[i], TABLE_CELL, "%zu %s", sizes[i], what);
+        titles[i + 2] = heads[i];
+    }
+    begin_table(&out, count + 2, 2, titles);
+    for (size_t number = 0; number < EVALUATORS; number++) {
+        next_row(&out);
+        put(&out, 0, "%s", evaluators[number].name);
+        put(&out, 1, "%s", evaluators[number].kind);
+        for (size_t i = 0; i < count; i++) {
+            if (installed(&evaluators[number])) {
+                put(&out, i + 2, "%s", thousands(times[i][number].median));
+            } else {
+                put(&out, i + 2, "not installed");
+            }
+        }
+    }
+    print_table(&out, by->markdown);
+    return 1;
+}
+
+int print_growth(const settings *by) {
+    static const size_t lines[] = {4, 8, 16, 32, 64}, channels[] = {1, 2, 3, 4, 5, 6, 7, 8};
+    return print_sizes(by, "lines", lines, 5, formula_of_lines) && print_sizes(by, "channels", channels, 8, formula_of_channels);
+}
