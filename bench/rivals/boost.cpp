@@ -110,13 +110,13 @@ void quotient(Record &out, const Record &u, const Record &v) {
     }
 }
 
-// E = U0 + U0, G = U + U, K = [1].
+// E = U0 + U0, G = U + U0, K = [1].
 void square(Record &out, const Record &u) {
     out.u = boost::numeric::square(u.u);
     out.u0 = boost::numeric::square(u.u0);
     out.slopes = u.slopes;
     if (out.slopes) {
-        const Span g = u.u + u.u;
+        const Span g = u.u + u.u0;
         out.a = g * u.a;
         out.b = (u.u0 + u.u0) * u.b;
         out.c = g * u.c + u.a * u.b;

@@ -17,13 +17,14 @@ typedef struct {
 } record;
 
 static record records[HUQABO_LINES];
-static mpfi_t first, second, third, gain, bent, distance;
+static mpfi_t none, one, first, second, third, gain, bent, distance;
 
 static void make_variables(void) {
     static int made = 0;
-    mpfi_ptr steps[] = {first, second, third, gain, bent, distance};
-    for (int i = 0; !made && i < 6; i++) {
+    mpfi_ptr steps[] = {none, one, first, second, third, gain, bent, distance};
+    for (int i = 0; !made && i < 8; i++) {
         mpfi_init2(steps[i], BITS);
+        mpfi_set_si(steps[i], i == 1);
     }
     for (int i = 0; !made && i < HUQABO_LINES; i++) {
         mpfi_init2(records[i].u, BITS);
@@ -36,16 +37,17 @@ static void make_variables(void) {
 }
 
 static void range(mpfi_ptr out, int64_t lower, int64_t upper) {
-    mpfi_interv_d(out, (double)lower / 65536, (double)upper / 65536);
+    mpfr_set_si_2exp(&out->left, lower, -COUNT_BITS, MPFR_RNDD);
+    mpfr_set_si_2exp(&out->right, upper, -COUNT_BITS, MPFR_RNDU);
 }
 
 /* A range that is not swept: its slopes are [0]. */
 static void still(record *out, int64_t lower, int64_t upper) {
     range(out->u, lower, upper);
-    range(out->u0, lower, upper);
-    mpfi_set_si(out->a, 0);
-    mpfi_set_si(out->b, 0);
-    mpfi_set_si(out->c, 0);
+    mpfi_set(out->u0, out->u);
+    mpfi_set(out->a, none);
+    mpfi_set(out->b, none);
+    mpfi_set(out->c, none);
     out->slopes = 1;
 }
 
@@ -53,8 +55,8 @@ static void channel(record *out, const huqabo_box *box, size_t number) {
     still(out, box->lower[number], box->upper[number]);
     if (number == box->swept) {
         range(out->u0, box->centre, box->centre);
-        mpfi_set_si(out->a, 1);
-        mpfi_set_si(out->b, 1);
+        mpfi_set(out->a, one);
+        mpfi_set(out->b, one);
     }
 }
 
@@ -110,13 +112,13 @@ static void quotient(record *out, const record *u, const record *v) {
     }
 }
 
-/* E = U0 + U0, G = U + U, K = [1]. */
+/* E = U0 + U0, G = U + U0, K = [1]. */
 static void square(record *out, const record *u) {
     mpfi_sqr(out->u, u->u);
     mpfi_sqr(out->u0, u->u0);
     out->slopes = u->slopes;
     if (out->slopes) {
-        mpfi_add(gain, u->u, u->u);
+        mpfi_add(gain, u->u, u->u0);
         mpfi_mul(out->a, gain, u->a);
         mpfi_add(first, u->u0, u->u0);
         mpfi_mul(out->b, first, u->b);

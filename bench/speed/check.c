@@ -3,11 +3,9 @@
 #include <stdio.h>
 #include <string.h>
 
-/* How far margins may be apart: the library's marks are coarser than a rival's ends, so its margin may be that much greater. */
-enum { MARGIN_COUNTS = 64, MARGIN_PART = 16 };
-
-/* Rounding near 0 may cost a slope in one evaluator and not in another. In so few windows of a job margins may be further apart. */
-enum { FAR_APART = WINDOWS / 100 };
+/* The library's marks are coarser than a rival's ends, so its margin may be so much greater: counts, and a part of the margin. It is never
+ * less, but for the count that the middle's rounding moves. */
+enum { WIDER_COUNTS = 128, WIDER_PART = 256, SHARPER_COUNTS = 1 };
 
 static int complain(const job *all, const evaluator *by, size_t window, const char *what) {
     fprintf(stderr, "formula %s, window %zu, %s %s: %s\n", all->of.name, window, by->name, by->kind, what);
@@ -58,17 +56,17 @@ static int holds_values(const job *all, size_t number, answers by) {
 }
 
 static int near(const job *all, size_t library, size_t rival, answers by) {
-    size_t apart = 0;
     for (size_t i = 0; i < WINDOWS; i++) {
         const huqabo_answer *a = &by[library][i], *b = &by[rival][i];
         const int64_t between = a->middle < b->middle ? b->middle - a->middle : a->middle - b->middle;
-        const int64_t wider = a->margin < b->margin ? b->margin - a->margin : a->margin - b->margin;
         if (between > a->margin + b->margin) {
             return complain(all, &evaluators[library], i, "its range and a rival's do not overlap");
         }
-        apart += wider > MARGIN_COUNTS + b->margin / MARGIN_PART;
-        if (apart > FAR_APART) {
-            return complain(all, &evaluators[library], i, "its margin and a rival's are far apart, not for the first time");
+        if (a->margin > b->margin + WIDER_COUNTS + b->margin / WIDER_PART) {
+            return complain(all, &evaluators[library], i, "its margin is far wider than a rival's");
+        }
+        if (a->margin < b->margin - SHARPER_COUNTS) {
+            return complain(all, &evaluators[library], i, "its margin is sharper than a rival's, whose ends are finer");
         }
     }
     return 1;

@@ -12,7 +12,7 @@ typedef huqabo_answer answers[EVALUATORS][WINDOWS];
  *   - the library and the plain evaluator answer the same, in both kinds,
  *   - Boost and MPFI answer the same, since their ends are the same numbers,
  *   - the range of every evaluator holds the formula's values at some points of the window's box,
- *   - the library's range and a rival's overlap, and the margins are near to each other.
+ *   - the library's range and a rival's overlap, and the library's margin is a little wider than a rival's, or as wide.
  * Says on standard error what does not hold; answers whether all does.
  */
 int check_job(const job *all, answers by);

@@ -20,7 +20,7 @@ static int print_sizes(const settings *by, const char *what, const size_t *sizes
         if (!time_job(&all, by->rounds, by->milliseconds, times[i], answered)) {
             return 0;
         }
-        snprintf(heads[i], TABLE_CELL, "%zu %s", sizes[i], what);
+        snprintf(heads[i], TABLE_CELL, "%zu %s%s", sizes[i], what, sizes[i] == 1 ? "" : "s");
         titles[i + 2] = heads[i];
     }
     begin_table(&out, count + 2, 2, titles);
@@ -42,5 +42,5 @@ static int print_sizes(const settings *by, const char *what, const size_t *sizes
 
 int print_growth(const settings *by) {
     static const size_t lines[] = {4, 8, 16, 32, 64}, channels[] = {1, 2, 3, 4, 5, 6, 7, 8};
-    return print_sizes(by, "lines", lines, 5, formula_of_lines) && print_sizes(by, "channels", channels, 8, formula_of_channels);
+    return print_sizes(by, "line", lines, 5, formula_of_lines) && print_sizes(by, "channel", channels, 8, formula_of_channels);
 }

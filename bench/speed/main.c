@@ -33,8 +33,8 @@ int main(int count, char **words) {
         return 1;
     }
     head(&part, "How the cost grows");
-    printf("Nanoseconds a window, medians of %zu rounds of %.0f ms. The first formulas are of one make, sums and products over two channels;\n"
-           "the second have 24 lines, and read more and more channels.\n\n",
+    printf("Nanoseconds a window, medians of %zu rounds of %.0f ms. The first formulas are of one make, sums and products over two\n"
+           "channels; the second have 24 lines, and read more and more channels.\n\n",
            part.rounds, part.milliseconds);
     if (!print_growth(&part)) {
         return 1;
