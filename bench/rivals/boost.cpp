@@ -9,6 +9,8 @@
 //   - No end is ever NaN and no interval empty, so nothing is checked for it.
 #include <cfenv>
 #include <cmath>
+#include <cstdio>
+#include <cstdlib>
 
 #include <boost/numeric/interval.hpp>
 
@@ -246,6 +248,12 @@ huqabo_answer report(const Record &of, const huqabo_box &box) {
     return answer;
 }
 
+// Without -frounding-math the negatives are folded away, and both ends of 1/3 are the same.
+__attribute__((noinline)) bool rounds_outward(double one, double three) {
+    const Span third = only(one) / only(three);
+    return third.lower() < third.upper();
+}
+
 // Not inlined, so that no operation moves in front of the change of mode.
 __attribute__((noinline)) void run(const huqabo_line *lines, size_t count, const huqabo_box *boxes, size_t windows,
                                    huqabo_answer *answers) {
@@ -264,6 +272,10 @@ __attribute__((noinline)) void run(const huqabo_line *lines, size_t count, const
 
 size_t boost_windows(const huqabo_line *lines, size_t count, const huqabo_box *boxes, size_t windows, huqabo_answer *answers) {
     const Upward upward;
+    if (!rounds_outward(1, 3)) {
+        std::fputs("boost.cpp was compiled without -frounding-math\n", stderr);
+        std::abort();
+    }
     run(lines, count, boxes, windows, answers);
     return windows;
 }

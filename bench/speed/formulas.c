@@ -101,7 +101,7 @@ const formula large_formula = {"C", 8, 4 * COUNTS, 6, 64, {
 
 /* Ranges from -1/2 to 1/2: then no product is beyond 1/2, since no sum is beyond 1. */
 static formula sums_and_products(size_t channels, size_t first, size_t lines) {
-    formula made = {"", channels, COUNTS / 2, 3, lines, {CHANNEL(0)}};
+    formula made = {"sums and products", channels, COUNTS / 2, 3, lines, {CHANNEL(0)}};
     for (size_t line = 1; line < first; line++) {
         made.lines[line] = (huqabo_line)CHANNEL(line % channels);
     }

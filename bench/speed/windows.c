@@ -31,8 +31,8 @@ static void fill(table *in, const formula *of, size_t number, const timing times
 }
 
 int print_windows(const settings *by) {
-    static const char *const titles[] = {"formula",   "evaluator",           "kind",              "windows a second", "ns a window",
-                                         "quartiles", "time to plain fixed", "to Huqabo's fixed", "mean margin"};
+    static const char *const titles[] = {"formula",   "evaluator",         "kind",            "windows a second", "ns a window",
+                                         "quartiles", "/ plain Rust fixed", "/ Huqabo fixed", "mean margin"};
     static const formula *const formulas[] = {&small_formula, &middle_formula, &large_formula};
     static job all;
     static answers answered;
