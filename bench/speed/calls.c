@@ -99,29 +99,24 @@ static void fill(table *in, const evaluator *by, const job *all, const timing *t
 
 enum { LIBRARIES = 4 };
 
-/* The rows of a formula. For each call all libraries have their turns. */
+/* The rows of a formula. All calls of all libraries take turns. */
 static int fill_rows(const settings *by, table *in, const job *all) {
     static const size_t libraries[LIBRARIES] = {LIBRARY_FIXED, PLAIN_FIXED, LIBRARY_SLIDING, PLAIN_SLIDING};
     static desk desks[LIBRARIES];
     uint64_t seen[LIBRARIES], refused = 0;
-    timing times[LIBRARIES][CALLS], turns[LIBRARIES];
-    task tasks[LIBRARIES];
+    timing times[LIBRARIES * CALLS];
+    task tasks[LIBRARIES * CALLS];
     for (size_t i = 0; i < LIBRARIES; i++) {
         begin(&desks[i], evaluators[libraries[i]].calls, all);
         seen[i] = rehearse(&desks[i]);
-    }
-    for (size_t call = 0; call < CALLS; call++) {
-        for (size_t i = 0; i < LIBRARIES; i++) {
-            tasks[i] = (task){works[call], &desks[i], works[call] == add_all ? (double)all->of.count : 1};
-        }
-        time_tasks(tasks, LIBRARIES, by->rounds, by->milliseconds, turns);
-        for (size_t i = 0; i < LIBRARIES; i++) {
-            times[i][call] = turns[i];
+        for (size_t call = 0; call < CALLS; call++) {
+            tasks[i * CALLS + call] = (task){works[call], &desks[i], works[call] == add_all ? (double)all->of.count : 1};
         }
     }
+    time_tasks(tasks, LIBRARIES * CALLS, by->rounds, by->milliseconds, times);
     for (size_t i = 0; i < LIBRARIES; i++) {
         refused += desks[i].refused;
-        fill(in, &evaluators[libraries[i]], all, times[i]);
+        fill(in, &evaluators[libraries[i]], all, &times[i * CALLS]);
     }
     if (refused != 0 || seen[0] != seen[1] || seen[2] != seen[3]) {
         fprintf(stderr, "formula %s: a call was refused, or answered differently by the library and the plain evaluator\n", all->of.name);

@@ -4,24 +4,20 @@
 #include "tables.h"
 #include "timed.h"
 
-enum { MOST_SIZES = 8 };
-
 /* A table with a column for each size: the nanoseconds for a window of a formula of that size. */
 static int print_sizes(const settings *by, const char *what, const size_t *sizes, size_t count, formula (*make)(size_t)) {
-    static job all;
-    static answers answered;
+    static timed_job jobs[MOST_JOBS];
     static table out;
-    static timing times[MOST_SIZES][EVALUATORS];
-    char heads[MOST_SIZES][TABLE_CELL];
-    const char *titles[MOST_SIZES + 2] = {"evaluator", "kind"};
+    char heads[MOST_JOBS][TABLE_CELL];
+    const char *titles[MOST_JOBS + 2] = {"evaluator", "kind"};
     for (size_t i = 0; i < count; i++) {
         const formula of = make(sizes[i]);
-        make_job(&all, &of);
-        if (!time_job(&all, by->rounds, by->milliseconds, times[i], answered)) {
-            return 0;
-        }
+        make_job(&jobs[i].all, &of);
         snprintf(heads[i], TABLE_CELL, "%zu %s%s", sizes[i], what, sizes[i] == 1 ? "" : "s");
         titles[i + 2] = heads[i];
+    }
+    if (!time_jobs(jobs, count, by->rounds, by->milliseconds)) {
+        return 0;
     }
     begin_table(&out, count + 2, 2, titles);
     for (size_t number = 0; number < EVALUATORS; number++) {
@@ -30,7 +26,7 @@ static int print_sizes(const settings *by, const char *what, const size_t *sizes
         put(&out, 1, "%s", evaluators[number].kind);
         for (size_t i = 0; i < count; i++) {
             if (installed(&evaluators[number])) {
-                put(&out, i + 2, "%s", thousands(times[i][number].median));
+                put(&out, i + 2, "%s", thousands(jobs[i].times[number].median));
             } else {
                 put(&out, i + 2, "not installed");
             }

@@ -27,8 +27,8 @@ int main(int count, char **words) {
     }
     const settings whole = {quick ? 3 : 15, quick ? 5 : 50, markdown}, part = {quick ? 3 : 9, quick ? 2 : 20, markdown};
     head(&whole, "Windows");
-    printf("%d windows of each formula; medians and quartiles of %zu rounds of %.0f ms, in processor time. Then come the times over those of\n"
-           "plain Rust and of Huqabo at the fixed kind, and how sharp the answers are: the mean margin of the windows, in counts.\n\n",
+    printf("%d windows of each formula; medians and quartiles of %zu rounds of %.0f ms, in processor time. Then come how many times as long it\n"
+           "takes as plain Rust and as Huqabo at the fixed kind, and how sharp the answers are: the mean margin of the windows, in counts.\n\n",
            WINDOWS, whole.rounds, whole.milliseconds);
     if (!print_windows(&whole)) {
         return 1;

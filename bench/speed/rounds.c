@@ -3,6 +3,7 @@
 #include "rounds.h"
 
 #include <stdlib.h>
+#include <string.h>
 #include <time.h>
 
 /* Processor time of this thread, in nanoseconds: time that another process has taken does not count. */
@@ -37,25 +38,38 @@ static int by_size(const void *a, const void *b) {
     return (x > y) - (x < y);
 }
 
+/* The middle of some numbers, and what lies halfway to the ends; puts them in order. */
+static double middle_of(double *numbers, size_t count, double *lower, double *upper) {
+    qsort(numbers, count, sizeof numbers[0], by_size);
+    *lower = numbers[count / 4];
+    *upper = numbers[count - 1 - count / 4];
+    return numbers[count / 2];
+}
+
 void time_tasks(const task *tasks, size_t count, size_t rounds, double milliseconds, timing *out) {
-    static double taken[MOST_TASKS][MOST_ROUNDS];
     size_t times[MOST_TASKS] = {0};
     for (size_t i = 0; i < count; i++) {
         times[i] = tasks[i].work == NULL ? 0 : repeats(&tasks[i], milliseconds * 1e6);
+        out[i] = (timing){.rounds = rounds};
     }
     for (size_t round = 0; round < rounds; round++) {
         for (size_t i = 0; i < count; i++) {
             if (times[i] > 0) {
-                taken[i][round] = spend(&tasks[i], times[i]) / ((double)times[i] * tasks[i].units);
+                out[i].each[round] = spend(&tasks[i], times[i]) / ((double)times[i] * tasks[i].units);
             }
         }
     }
     for (size_t i = 0; i < count; i++) {
-        if (times[i] > 0) {
-            qsort(taken[i], rounds, sizeof taken[i][0], by_size);
-            out[i] = (timing){taken[i][rounds / 2], taken[i][rounds / 4], taken[i][rounds - 1 - rounds / 4]};
-        } else {
-            out[i] = (timing){0, 0, 0};
-        }
+        double sorted[MOST_ROUNDS];
+        memcpy(sorted, out[i].each, sizeof sorted);
+        out[i].median = middle_of(sorted, rounds, &out[i].lower, &out[i].upper);
     }
+}
+
+double times_as_long(const timing *task, const timing *other) {
+    double ratios[MOST_ROUNDS], lower, upper;
+    for (size_t round = 0; round < task->rounds; round++) {
+        ratios[round] = task->each[round] / other->each[round];
+    }
+    return middle_of(ratios, task->rounds, &lower, &upper);
 }

@@ -4,7 +4,7 @@
 
 #include <stddef.h>
 
-enum { MOST_ROUNDS = 99, MOST_TASKS = 16 };
+enum { MOST_ROUNDS = 99, MOST_TASKS = 48 };
 
 /* Something to time: work does it once, and counts as so many units. Null work is passed over. */
 typedef struct {
@@ -13,12 +13,17 @@ typedef struct {
     double units;
 } task;
 
-/* The nanoseconds of processor time for a unit: the median of the rounds, and the quartiles. */
+/* The nanoseconds of processor time for a unit: in each round, their median, and the quartiles. */
 typedef struct {
-    double median, lower, upper;
+    double each[MOST_ROUNDS], median, lower, upper;
+    size_t rounds;
 } timing;
 
 /* Times tasks in so many rounds, in each of which each task is repeated for about so many milliseconds. */
 void time_tasks(const task *tasks, size_t count, size_t rounds, double milliseconds, timing *out);
+
+/* How many times as long as another task a task takes: the median of the rounds. A round has both close together, so on a busy machine this
+ * wavers less than the medians themselves. */
+double times_as_long(const timing *task, const timing *other);
 
 #endif

@@ -11,16 +11,22 @@ static void take(void *with) {
     run_windows(one->by, one->all, one->answers);
 }
 
-int time_job(const job *all, size_t rounds, double milliseconds, timing out[EVALUATORS], answers by) {
-    turn turns[EVALUATORS];
-    task tasks[EVALUATORS];
-    if (!check_job(all, by)) {
-        return 0;
+int time_jobs(timed_job *jobs, size_t count, size_t rounds, double milliseconds) {
+    turn turns[MOST_JOBS * EVALUATORS];
+    task tasks[MOST_JOBS * EVALUATORS] = {{NULL, NULL, 0}};
+    static timing times[MOST_JOBS * EVALUATORS];
+    for (size_t i = 0; i < count * EVALUATORS; i++) {
+        timed_job *on = &jobs[i / EVALUATORS];
+        const evaluator *by = &evaluators[i % EVALUATORS];
+        if (i % EVALUATORS == 0 && !check_job(&on->all, on->by)) {
+            return 0;
+        }
+        turns[i] = (turn){by, &on->all, on->by[i % EVALUATORS]};
+        tasks[i] = (task){installed(by) ? take : NULL, &turns[i], WINDOWS};
     }
-    for (size_t i = 0; i < EVALUATORS; i++) {
-        turns[i] = (turn){&evaluators[i], all, by[i]};
-        tasks[i] = (task){installed(&evaluators[i]) ? take : NULL, &turns[i], WINDOWS};
+    time_tasks(tasks, count * EVALUATORS, rounds, milliseconds, times);
+    for (size_t i = 0; i < count * EVALUATORS; i++) {
+        jobs[i / EVALUATORS].times[i % EVALUATORS] = times[i];
     }
-    time_tasks(tasks, EVALUATORS, rounds, milliseconds, out);
     return 1;
 }
