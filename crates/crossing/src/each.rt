@@ -23,7 +23,14 @@ pub fn add<K: Crossing>(
     if line.operation > 10 {
         return answer(Err(Cause::Operation.at(0)));
     }
-    answer(call(sheet, working, &mut [], &mut [], room, Call::Add(line.meaning())))
+    answer(call(
+        sheet,
+        working,
+        &mut [],
+        &mut [],
+        room,
+        Call::Add(line.meaning()),
+    ))
 }
 
 pub fn move_channel<K: Crossing>(

@@ -4,7 +4,6 @@
 mod answers;
 mod boxed;
 mod calls;
-mod room;
 mod each;
 mod formula;
 mod lines;
@@ -13,6 +12,7 @@ mod means;
 mod memory;
 mod plain;
 mod records;
+mod room;
 mod sheets;
 mod station;
 
@@ -20,7 +20,7 @@ pub use calls::call;
 pub use each::{add, move_channel, read, report};
 pub use marks::Crossing;
 pub use means::Means;
-pub use plain::{open, strike, write};
 pub use memory::{CAnswer, CBox, CLine, CMark, CRecord, CSheet, CSpan};
+pub use plain::{open, strike, write};
 pub use room::Room;
 pub use station::windows;

@@ -5,13 +5,7 @@ use crate::answers::answer;
 use crate::memory::{CAnswer, CSheet};
 use runs::Answer;
 
-pub fn open(
-    sheet: &mut CSheet,
-    lower: &[i64],
-    upper: &[i64],
-    swept: usize,
-    centre: i64,
-) -> CAnswer
+pub fn open(sheet: &mut CSheet, lower: &[i64], upper: &[i64], swept: usize, centre: i64) -> CAnswer
     ensures { Opens lower.now upper.now swept centre sheet.old result sheet.new }
 {
     let mut held = sheet.sheet();

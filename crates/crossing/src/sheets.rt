@@ -5,8 +5,8 @@ ghost use Rattle.boxes.specs.Stored.{box_of};
 ghost use Rattle.crossing.specs.Sheets.{lines_in, sheet_of};
 ghost use Rattle.sheet.specs.Contents.{contents};
 
-use crate::means::{Means, read_all};
 use crate::boxed::stored;
+use crate::means::{Means, read_all};
 use crate::memory::{CLine, CSheet};
 use boxes::ChannelBox;
 use line::Line;

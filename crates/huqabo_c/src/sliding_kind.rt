@@ -6,8 +6,8 @@ ghost use Rattle.crossing.specs.Windows.{window_answer};
 ghost use Rattle.sliding.specs.Grid.{sliding_model};
 
 use crossing::{CAnswer, CBox, CLine, CRecord, CSheet, Room};
-use sliding::Sliding;
 use runs::Moving;
+use sliding::Sliding;
 
 #[unsafe(no_mangle)]
 pub extern "C" fn huqabo_sliding_open(

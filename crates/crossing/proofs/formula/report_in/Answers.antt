@@ -20,9 +20,9 @@ returns-in_err-record g c =
     let p = err_from_is_err_and c.from_residual-in_err-record.result c.from_residual-in_err-record.ensures.1 in
     p.1 ∙ ap Err p.2
     ∙ sym (answers m b s.lines c.args.line
-        (sym (c.in_ok-records_over.ensures.answer ∙ ap (λ n. (records_over m s n b).answer) c.requires))
-        w w' (c.records_over.ensures.records ∙ ap (λ n. overlaid (records_over m s n b).records w) c.requires)
-        (c.in_err-record.ensures ∙ ap (λ n. found NoLine c.args.line (slice_get (take n w') c.args.line)) c.held.ensures))
+    (sym (c.in_ok-records_over.ensures.answer ∙ ap (λ n. (records_over m s n b).answer) c.requires))
+    w w' (c.records_over.ensures.records ∙ ap (λ n. overlaid (records_over m s n b).records w) c.requires)
+    (c.in_err-record.ensures ∙ ap (λ n. found NoLine c.args.line (slice_get (take n w') c.args.line)) c.held.ensures))
 
 pub returns : goal.returns
 returns g c =
@@ -33,6 +33,6 @@ returns g c =
     let w' = c.records_over.new.working in
     ap Ok c.report_of.ensures.value
     ∙ sym (answers m b s.lines c.args.line
-        (sym (c.in_ok-records_over.ensures.answer ∙ ap (λ n. (records_over m s n b).answer) c.requires))
-        w w' (c.records_over.ensures.records ∙ ap (λ n. overlaid (records_over m s n b).records w) c.requires)
-        (c.in_ok-record.ensures ∙ ap (λ n. found NoLine c.args.line (slice_get (take n w') c.args.line)) c.held.ensures))
+    (sym (c.in_ok-records_over.ensures.answer ∙ ap (λ n. (records_over m s n b).answer) c.requires))
+    w w' (c.records_over.ensures.records ∙ ap (λ n. overlaid (records_over m s n b).records w) c.requires)
+    (c.in_ok-record.ensures ∙ ap (λ n. found NoLine c.args.line (slice_get (take n w') c.args.line)) c.held.ensures))
