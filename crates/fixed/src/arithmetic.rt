@@ -51,6 +51,7 @@ fn sum(a: Fixed, b: Fixed) -> Ratio
     }
 }
 
+#[inline(always)]
 fn product(a: Fixed, b: Fixed) -> Ratio
     ensures below { ratios.below result ≡ kinds.product_below fixed_model a b }
     ensures above { ratios.above result ≡ kinds.product_above fixed_model a b }
@@ -108,10 +109,12 @@ impl NumberKind for Fixed {
         sum(self, other).above()
     }
 
+    #[inline(always)]
     fn product_below(self, other: Fixed) -> Option<Fixed> {
         product(self, other).below()
     }
 
+    #[inline(always)]
     fn product_above(self, other: Fixed) -> Option<Fixed> {
         product(self, other).above()
     }

@@ -20,6 +20,7 @@ impl Ratio {
     ghost use Rattle.fixed.specs.Ratios as ratios;
 
     // Rounded down to a whole number, also where it is negative.
+    #[inline(always)]
     fn floor(self) -> i64
         ensures { result ≡ int_div_euclid self.n (pos self.d) }
     {
@@ -27,6 +28,7 @@ impl Ratio {
     }
 
     // The greatest mark not above the ratio.
+    #[inline(always)]
     pub fn below(self) -> Option<Fixed>
         ensures { result ≡ ratios.below self }
     {
@@ -39,6 +41,7 @@ impl Ratio {
     }
 
     // The least mark not below the ratio, by the mirror image.
+    #[inline(always)]
     pub fn above(self) -> Option<Fixed>
         ensures { result ≡ ratios.above self }
     {

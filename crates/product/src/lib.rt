@@ -13,6 +13,7 @@ use kind::NumberKind;
 use slope::{Base, Record, Slopes, present};
 
 // A = Au × V0 + U × Av; B = Bu × V0 + U0 × Bv; C = Cu × V0 + U × Cv + Au × Bv
+#[inline(always)]
 fn product_slopes<K: NumberKind>(base: Base<K>, p: &Record<K>, q: &Record<K>) -> Record<K>
     ensures { result ≡ rec base.u base.u0 (rules.product_slopes K.NumberKind.model p.now q.now) }
 {
@@ -59,6 +60,7 @@ fn product_slopes<K: NumberKind>(base: Base<K>, p: &Record<K>, q: &Record<K>) ->
 }
 
 // The record of a product.
+#[inline(always)]
 pub fn product<K: NumberKind>(
     p: &Record<K>,
     q: &Record<K>,

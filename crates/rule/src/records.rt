@@ -80,6 +80,7 @@ fn two<K: NumberKind>(
 }
 
 // (Apart from `record_of`: in one, with the theorem named by `using`, the check does not find it at the many exits.)
+#[inline(always)]
 fn record_steps<K: NumberKind>(
     b: &ChannelBox,
     earlier: &[Record<K>],
@@ -126,6 +127,7 @@ fn record_steps<K: NumberKind>(
 }
 
 // The record of one more line, or why it is refused. Lines that have the records of the rules tell the truth at every point of the box.
+#[inline(always)]
 pub fn record_of<K: NumberKind>(
     b: &ChannelBox,
     earlier: &[Record<K>],

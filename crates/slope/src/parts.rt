@@ -38,6 +38,7 @@ pub fn still<K: NumberKind>(x: Span<K>) -> Record<K>
     straight(x, x, K::zero())
 }
 
+#[inline(always)]
 fn sum_slopes<K: NumberKind>(base: Base<K>, p: &Record<K>, q: &Record<K>) -> Record<K>
     ensures { result ≡ rec base.u base.u0 (rules.part_slopes (spans.sum K.NumberKind.model) p.now q.now) }
 {
@@ -59,6 +60,7 @@ fn sum_slopes<K: NumberKind>(base: Base<K>, p: &Record<K>, q: &Record<K>) -> Rec
     base.sloped(Slopes { a, b, c })
 }
 
+#[inline(always)]
 pub fn sum<K: NumberKind>(p: &Record<K>, q: &Record<K>, place: usize) -> Result<Record<K>, Fault>
     ensures value { result ≡ given place (rules.sum K.NumberKind.model p.now q.now) }
     ensures truth { Kept K.NumberKind.model ◌+F◌ (spans.sum K.NumberKind.model p.now.u q.now.u) p.now q.now result }
@@ -84,6 +86,7 @@ fn negated<K: NumberKind>(p: &Record<K>) -> Record<K>
 }
 
 // The sum with the negative.
+#[inline(always)]
 pub fn difference<K: NumberKind>(
     p: &Record<K>,
     q: &Record<K>,

@@ -8,6 +8,7 @@ use crate::span::Span;
 use kind::NumberKind;
 
 // a × b rounded down, to c × d rounded up. (Two steps, and not `ends`: most of the time goes here, and it took a fifth longer.)
+#[inline(always)]
 pub fn corners<K: NumberKind>(a: K, b: K, c: K, d: K) -> Option<Span<K>>
     ensures { result ≡ spans.corners K.NumberKind.model a b c d }
 {
@@ -18,6 +19,7 @@ pub fn corners<K: NumberKind>(a: K, b: K, c: K, d: K) -> Option<Span<K>>
 
 // s from 0 up. (The mirror image below has other ends and other tests; by negated spans it would be no shorter, and negate
 // four marks more.)
+#[inline(always)]
 fn product_up<K: NumberKind>(s: Span<K>, t: Span<K>) -> Option<Span<K>>
     ensures { result ≡ spans.product_up K.NumberKind.model s t }
 {
@@ -27,6 +29,7 @@ fn product_up<K: NumberKind>(s: Span<K>, t: Span<K>) -> Option<Span<K>>
 }
 
 // s from 0 down
+#[inline(always)]
 fn product_down<K: NumberKind>(s: Span<K>, t: Span<K>) -> Option<Span<K>>
     ensures { result ≡ spans.product_down K.NumberKind.model s t }
 {
@@ -36,6 +39,7 @@ fn product_down<K: NumberKind>(s: Span<K>, t: Span<K>) -> Option<Span<K>>
 }
 
 // 0 inside s
+#[inline(always)]
 fn product_across<K: NumberKind>(s: Span<K>, t: Span<K>) -> Option<Span<K>>
     ensures { result ≡ spans.product_across K.NumberKind.model s t }
 {
@@ -52,6 +56,7 @@ fn product_across<K: NumberKind>(s: Span<K>, t: Span<K>) -> Option<Span<K>>
 
 impl<K: NumberKind> Span<K> {
     #[tactic(auto, using(crate::proofs::Lawful::product_law))]
+    #[inline(always)]
     pub fn product(self, other: Span<K>) -> Option<Span<K>>
         ensures value { result ≡ spans.product K.NumberKind.model self other }
         ensures narrowest { ProductLaw K.NumberKind.model self other result }

@@ -8,6 +8,7 @@ use kind::NumberKind;
 
 impl<K: NumberKind> Span<K> {
     #[tactic(auto, using(crate::proofs::Lawful::sum_law))]
+    #[inline(always)]
     pub fn sum(self, other: Span<K>) -> Option<Span<K>>
         ensures value { result ≡ spans.sum K.NumberKind.model self other }
         ensures narrowest { SumLaw K.NumberKind.model self other result }
@@ -20,6 +21,7 @@ impl<K: NumberKind> Span<K> {
 
     // The sum with the negative.
     #[tactic(auto, using(crate::proofs::Lawful::difference_law))]
+    #[inline(always)]
     pub fn difference(self, other: Span<K>) -> Option<Span<K>>
         ensures value { result ≡ spans.difference K.NumberKind.model self other }
         ensures narrowest { DifferenceLaw K.NumberKind.model self other result }

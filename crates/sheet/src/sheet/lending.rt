@@ -17,6 +17,7 @@ pub(crate) fn enough<K: NumberKind>(working: &[Record<K>]) -> Result<(), Fault>
 }
 
 // Writes a record whole.
+#[inline(always)]
 pub(crate) fn keep<K: NumberKind>(records: &mut [Record<K>], n: usize, made: Record<K>)
     requires { n < length records.old }
     ensures { records.new ≡ slice_set records.old n made }

@@ -27,6 +27,7 @@ fn copy<K: NumberKind>(to: &mut [Record<K>], from: &[Record<K>], count: usize)
 
 impl Sheet {
     // The record of a held line over a box, by those of the lines before it.
+    #[inline(always)]
     fn renewed<K: NumberKind>(
         &self,
         over: &ChannelBox,
@@ -46,6 +47,7 @@ impl Sheet {
     }
 
     // Makes the records of the held lines anew over a box, in the spare lines.
+    #[inline(always)]
     fn remake<K: NumberKind>(&self, over: &ChannelBox, spare: &mut [Record<K>]) -> Result<(), Fault>
         requires room { 64 ≤ length spare.old }
         ensures answer { result ≡ (remade K.NumberKind.model (box_of over.now) (contents self.now).lines [] []).answer }
