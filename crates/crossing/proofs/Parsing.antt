@@ -1,11 +1,10 @@
 -- Reading the lines of a formula one by one.
-use Rattle.std.proofs.Common.{◌≡◌, ◌==◌, ℕ, Bool, true, false, cond, nat_lt, suc, refl, ◌+◌, ◌-◌, ◌<◌, ◌≤◌, List, [], ◌∷◌, ◌++◌, length, take, set, Ok, Err, Result, sym, ap, ◌∙◌, arith, length-set}
+use Rattle.std.proofs.Common.{◌≡◌, ◌==◌, ℕ, Bool, true, false, cond, nat_lt, suc, refl, ◌+◌, ◌-◌, ◌<◌, ◌≤◌, List, [], ◌∷◌, ◌++◌, length, take, set, Ok, sym, ap, ◌∙◌, arith, length-set}
 use Rattle.std.proofs.lemmas.Bool.{ltb-false}
 use Rattle.std.proofs.lemmas.List.{take_more_set}
 use Rattle.fault.proofs.Steps.{after_ok, err_ok, ok_is}
 use Rattle.fault.specs.Refusals.{after, refused}
 use Rattle.fault.specs.declared.fault.Cause.TheVariants.{Count}
-use Rattle.fault.specs.declared.fault.Fault.{Fault}
 use Rattle.leb.specs.Places.{number_at}
 use Rattle.leb.specs.declared.place.Place.{Place}
 use Rattle.line.specs.declared.line.Line.{Line}

@@ -21,7 +21,6 @@ use Rattle.sheet.specs.Calls.{Opened, Struck, grown, reopened}
 use Rattle.sheet.specs.Contents.{Contents, blank}
 use Rattle.sheet.specs.Moving.{new_box, shifted}
 use Rattle.sheet.specs.Reading.{filled, read_onto}
-use Rattle.slope.specs.declared.record.Record.{Record}
 
 grown_over : {R : Type 0} (s : Contents) (line : Line) (made : Result R Fault) → (grown s line made).over ≡ s.over
 grown_over s line (Ok r) = refl

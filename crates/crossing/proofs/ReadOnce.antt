@@ -1,5 +1,5 @@
 -- A formula that was read is what reading it over a box makes records of.
-use Rattle.std.proofs.Common.{◌≡◌, ℕ, zero, suc, List, [], ◌∷◌, ◌++◌, length, Ok, Err, Result, sym, refl, ap, ◌∙◌, subst, append_assoc}
+use Rattle.std.proofs.Common.{◌≡◌, ℕ, zero, suc, List, [], ◌∷◌, ◌++◌, Ok, Err, Result, sym, refl, ap, ◌∙◌, append_assoc}
 use Rattle.std.proofs.lemmas.List.{append-nil}
 use Rattle.boxes.specs.Boxes.{Box}
 use Rattle.fault.proofs.Steps.{err_ok, ok_is}
@@ -10,7 +10,7 @@ use Rattle.line.specs.declared.line.Line.{Line}
 use Rattle.reader.specs.Reading.{count_at, end_at, formula_at, line_at, lines_from}
 use Rattle.rule.specs.Rule.{rule}
 use Rattle.sheet.specs.Moving.{remade}
-use Rattle.sheet.specs.Reading.{Outcome, ends, goes_on, read_formula, read_lines}
+use Rattle.sheet.specs.Reading.{ends, goes_on, read_formula, read_lines}
 use Rattle.slope.specs.declared.record.Record.{Record}
 
 module _ {K : Type 0} (m : Model K) (b : Box) (bytes : List ℕ) where

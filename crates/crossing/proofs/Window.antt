@@ -18,7 +18,7 @@ use Rattle.report.specs.declared.answer.Report.{Report}
 use Rattle.runs.specs.Runs.{handed}
 use Rattle.runs.specs.declared.call.Answer.TheVariants as answers
 use Rattle.sheet.specs.Moving.{remade}
-use Rattle.sheet.specs.Reading.{Outcome, read_formula}
+use Rattle.sheet.specs.Reading.{Outcome}
 use Rattle.window.specs.Windows.{at_step, line_over}
 use Rattle.window.specs.declared.refused.Step.TheVariants as steps
 

@@ -1,5 +1,5 @@
 -- Records that are made one after the other: the first n are made, and behind them stands what was there.
-use Rattle.std.proofs.Common.{◌≡◌, ℕ, ◌+◌, ◌<◌, ◌≤◌, List, [], ◌∷◌, ◌++◌, length, take, drop, set, sym, ap, ◌∙◌, arith, length-set, take-append-drop, length-take-le, drop-drop, drop-set-lt}
+use Rattle.std.proofs.Common.{◌≡◌, ℕ, ◌+◌, ◌<◌, ◌≤◌, List, ◌++◌, length, take, drop, set, sym, ap, ◌∙◌, arith, length-set, take-append-drop, length-take-le, drop-drop, drop-set-lt}
 use Rattle.slope.specs.declared.record.Record.{Record}
 use Rattle.sheet.specs.Reading.{overlaid}
 

@@ -1,5 +1,5 @@
 -- Reading line by line.
-use Rattle.std.proofs.Common.{◌≡◌, ℕ, suc, ◌+◌, ◌-◌, ◌<◌, ◌≤◌, true, List, [], ◌∷◌, ◌++◌, length, take, drop, set, is_ok, IsErrAnd, IfOk, IfErr, Ok, Err, Result, sym, refl, ap, ◌∙◌, subst, ap₂, true≢false, arith, length-set, take-append-drop, length-take-le, drop-drop, drop-set-lt, MatchResult}
+use Rattle.std.proofs.Common.{◌≡◌, ℕ, suc, ◌+◌, ◌-◌, ◌<◌, ◌≤◌, true, List, [], ◌∷◌, ◌++◌, length, take, set, is_ok, IsErrAnd, IfOk, IfErr, Ok, Err, Result, sym, refl, ap, ◌∙◌, subst, ap₂, true≢false, arith, MatchResult}
 use Rattle.std.proofs.lemmas.List.{take_more_set}
 use Rattle.std.proofs.lemmas.Result.{err_from_is_err_and}
 use Rattle.boxes.specs.Boxes.{Box}

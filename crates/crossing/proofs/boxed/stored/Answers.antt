@@ -1,4 +1,4 @@
-use Rattle.std.proofs.Common.{◌≡◌, ℕ, ◌≤◌, nat_lt, Bool, true, false, cond, List, ℤ, take, Ok, Result, refl, ap, ◌∙◌, subst, arith, rules, to_z, of_z, w32, w64}
+use Rattle.std.proofs.Common.{◌≡◌, ℕ, ◌≤◌, nat_lt, Bool, true, false, cond, take, Result, refl, ap, ◌∙◌, subst, arith, rules, to_z, of_z, w32, w64}
 use Rattle.std.proofs.lemmas.Bool.{ltb-true}
 use Rattle.boxes.proofs.Reopened.{reopens}
 use Rattle.boxes.specs.Boxes.{Box, opened}

@@ -1,4 +1,4 @@
-use Rattle.std.proofs.Common.{◌≡◌, length, map, take}
+use Rattle.std.proofs.Common.{◌≡◌, length, take}
 use Rattle.boxes.specs.Stored.{lowers, uppers}
 use Rattle.crossing.proofs.boxed.stored.Given as goal
 

@@ -1,4 +1,4 @@
-use Rattle.std.proofs.Common.{◌≡◌, ap, ◌∙◌, sym, subst}
+use Rattle.std.proofs.Common.{ap, ◌∙◌, sym, subst}
 use Rattle.boxes.specs.Boxes.{Proper}
 use Rattle.crossing.proofs.Proper.{made_proper, sheet_proper}
 use Rattle.crossing.specs.Memory.{in_memory, records_in}

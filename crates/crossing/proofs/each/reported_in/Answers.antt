@@ -1,8 +1,6 @@
 use Rattle.std.proofs.Common.{subst}
-use Rattle.crossing.specs.Memory.{records_in}
 use Rattle.crossing.specs.Sheets.{sheet_of}
 use Rattle.sheet.specs.Calls.{Reported}
-use Rattle.sheet.specs.Contents.{contents}
 use Rattle.crossing.proofs.each.reported_in.Goals as goal
 
 pub returns : goal.returns

@@ -1,4 +1,4 @@
-use Rattle.std.proofs.Common.{◌≡◌, ◌≤◌, List, [], length, take, Ok, Err, sym, ap, ◌∙◌, arith, take_all, length-take-le}
+use Rattle.std.proofs.Common.{[], take, Ok, sym, ap, ◌∙◌, arith, take_all, length-take-le}
 use Rattle.crossing.proofs.Parsing.{all_read, count_few, goes_on}
 use Rattle.fault.proofs.Steps.{ok_is}
 use Rattle.fault.specs.Refusals.{after}

@@ -1,4 +1,4 @@
-use Rattle.std.proofs.Common.{length, map, take, min, ap, ◌∙◌}
+use Rattle.std.proofs.Common.{length, map, take, ap, ◌∙◌}
 use Rattle.std.proofs.Math.Nat.{min_comm}
 use Rattle.std.proofs.lemmas.List.{take_min}
 use Rattle.crossing.specs.Records.{record_of}

@@ -1,7 +1,6 @@
-use Rattle.std.proofs.Common.{◌≡◌, length, map, ap, ◌∙◌, sym}
+use Rattle.std.proofs.Common.{length, map, ap, ◌∙◌, sym}
 use Rattle.std.proofs.lemmas.List.{length-map}
 use Rattle.crossing.proofs.Fronts.{front_is, front_length, front_rest}
-use Rattle.crossing.specs.Memory.{Beyond, records_in}
 use Rattle.crossing.specs.Records.{record_of}
 use Rattle.crossing.proofs.room.store.Goals as goal
 

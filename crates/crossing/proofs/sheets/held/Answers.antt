@@ -1,4 +1,4 @@
-use Rattle.std.proofs.Common.{◌≡◌, List, length, take, ap, ◌∙◌, arith, length-take-le, take_all}
+use Rattle.std.proofs.Common.{List, take, ap, ◌∙◌, arith, length-take-le, take_all}
 use Rattle.boxes.specs.Stored.{box_of}
 use Rattle.line.specs.declared.line.Line.{Line}
 use Rattle.sheet.specs.Contents.{Contents}

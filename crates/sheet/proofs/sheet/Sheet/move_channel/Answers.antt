@@ -1,8 +1,8 @@
-use Rattle.std.proofs.Common.{◌≡◌, sym, ap, ◌∙◌, subst, rules, w64, to_z, of_z}
-use Rattle.boxes.specs.Stored.{box_of, boxed}
+use Rattle.std.proofs.Common.{sym, ap, ◌∙◌, subst, rules, w64, to_z, of_z}
+use Rattle.boxes.specs.Stored.{boxed}
 use Rattle.sheet.proofs.Moved.{box_as, box_given, not_moved}
 use Rattle.sheet.specs.Contents.{contents}
-use Rattle.sheet.specs.Moving.{MovedTo, new_box}
+use Rattle.sheet.specs.Moving.{MovedTo}
 use Rattle.sheet.proofs.sheet.Sheet.move_channel.Goals as goal
 
 pub returns-in_err-over : goal.returns-in_err-over

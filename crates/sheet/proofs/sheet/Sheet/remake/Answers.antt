@@ -1,4 +1,4 @@
-use Rattle.std.proofs.Common.{◌≡◌, get_or, take, sym, ap, ◌∙◌, arith, get_or-take, length-take-le}
+use Rattle.std.proofs.Common.{get_or, take, sym, ap, ◌∙◌, arith, get_or-take, length-take-le}
 use Rattle.boxes.specs.Stored.{box_of}
 use Rattle.line.specs.declared.line.Line.TheVariants.{Channel}
 use Rattle.rule.specs.Rule.{rule}
