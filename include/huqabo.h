@@ -59,7 +59,7 @@ extern "C" {
 
 enum { HUQABO_LINES = 64, HUQABO_CHANNELS = 8 };
 
-/* The operations of lines. L, R, S and Q are numbers of earlier lines, and the first line is line 0. */
+/* The operations of lines. But for a channel, a, b and c are numbers of earlier lines; the first line is line 0. */
 enum {
     HUQABO_CHANNEL = 0,    /* the channel a */
     HUQABO_CONSTANT = 1,   /* constant / 65,536 */
