@@ -1,12 +1,19 @@
 -- What a call finds and leaves in memory: the sheet, and of the records the first 64.
-use Rattle.std.specs.Prelude.{◌≡◌, ℕ, List, length, map, take, drop}
+use Rattle.std.specs.Prelude.{◌≡◌, ℕ, None, List, length, map, take, drop}
 use Rattle.crossing.specs.Records.{record_of}
 use Rattle.crossing.specs.Sheets.{sheet_of}
 use Rattle.crossing.specs.declared.memory.CMark.{CMark}
 use Rattle.crossing.specs.declared.memory.CRecord.{CRecord}
 use Rattle.crossing.specs.declared.memory.CSheet.{CSheet}
+use Rattle.kind.specs.Model.{Model}
 use Rattle.runs.specs.Runs.{State, state}
+use Rattle.slope.specs.Rules.{rec}
 use Rattle.slope.specs.declared.record.Record.{Record}
+use Rattle.span.specs.Spans.{zero_span}
+
+-- what a room has before it is used: the point 0, and no slopes
+abbrev pub blank_record : {K : Type 0} → Model K → Record K
+blank_record m = rec (zero_span m) (zero_span m) None
 
 module _ {K : Type 0} (mark_of : CMark → K) where
   abbrev pub records_in : List CRecord → List (Record K)

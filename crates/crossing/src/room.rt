@@ -1,6 +1,6 @@
 // Room for the records of a call, and which records of a memory a call is lent: the first 64, and no more.
-ghost use Rattle.std.specs.Prelude.{◌≡◌, length, min};
-ghost use Rattle.crossing.specs.Memory.{Beyond, records_in};
+ghost use Rattle.std.specs.Prelude.{◌≡◌, length, min, replicate};
+ghost use Rattle.crossing.specs.Memory.{Beyond, blank_record, records_in};
 
 use crate::marks::Crossing;
 use crate::means::{read_all, write_all};
@@ -18,8 +18,11 @@ pub struct Room<K: Crossing> {
 }
 
 impl<K: Crossing> Room<K> {
-    // (A caller makes it, and not a call: whoever knows the kind knows the room's size.)
-    pub fn blank() -> Room<K> {
+    // Each record has U = U0 = [0] and no slopes. (A caller makes it, and not a call: whoever knows the kind knows the room's size.)
+    pub fn blank() -> Room<K>
+        ensures working { result.working ≡ replicate 64 (blank_record K.NumberKind.model) }
+        ensures spare { result.spare ≡ replicate 64 (blank_record K.NumberKind.model) }
+    {
         let nought = Span::point(K::zero());
         let flat = Record::flat(nought, nought);
         Room {
