@@ -2,5 +2,6 @@ pub mod AllTrue
 pub mod Exits
 pub mod Fits
 pub mod Places
+pub mod Puts
 pub mod Ranges
 pub mod Tells

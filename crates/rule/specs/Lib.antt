@@ -3,3 +3,4 @@ pub mod Rule
 pub mod Fit
 pub mod Records
 pub mod Lent
+pub mod Placed

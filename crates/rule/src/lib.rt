@@ -3,4 +3,4 @@
 
 mod records;
 
-pub use records::record_of;
+pub use records::record_line;

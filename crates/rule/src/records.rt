@@ -1,10 +1,11 @@
 // Making the record of a line.
-ghost use Rattle.std.specs.Prelude.{◌≡◌, take};
+ghost use Rattle.std.specs.Prelude.{◌≡◌, ◌<◌, length, take};
 ghost use Rattle.std.specs.List.{slice_get};
 ghost use Rattle.fault.specs.Refusals.{found};
 ghost use Rattle.fault.specs.declared.fault.Cause.TheVariants.{NoChannel};
 ghost use Rattle.boxes.specs.Stored.{box_of};
 ghost use Rattle.rule.specs.Lent.{lent, lent_two};
+ghost use Rattle.rule.specs.Placed.{accepts, placed, stored};
 ghost use Rattle.rule.specs.Records.{RecordsTrue};
 ghost use Rattle.rule.specs.Rule as rules;
 
@@ -79,62 +80,100 @@ fn two<K: NumberKind>(
     Ok((p, q))
 }
 
-// (Apart from `record_of`: in one, with the theorem named by `using`, the check does not find it at the many exits.)
+// Puts a record that was made into its place.
+#[inline(always)]
+fn put<K: NumberKind>(
+    records: &mut [Record<K>],
+    n: usize,
+    made: Result<Record<K>, Fault>,
+) -> Result<(), Fault>
+    requires { n < length records.old }
+    ensures answer { result ≡ accepts made }
+    ensures records { records.new ≡ stored records.old n made }
+{
+    records[n] = made?;
+    Ok(())
+}
+
+// Each arm puts its own record into its place: with one `put` behind them all, records would be copied once more.
 #[inline(always)]
 fn record_steps<K: NumberKind>(
     b: &ChannelBox,
-    earlier: &[Record<K>],
+    records: &mut [Record<K>],
+    n: usize,
     line: Line,
-) -> Result<Record<K>, Fault>
-    ensures { result ≡ rules.rule K.NumberKind.model (box_of b.now) earlier.now line }
+) -> Result<(), Fault>
+    requires { n < length records.old }
+    ensures answer { result ≡ accepts (rules.rule K.NumberKind.model (box_of b.now) (take n records.old) line) }
+    ensures records { records.new ≡ stored records.old n (rules.rule K.NumberKind.model (box_of b.now) (take n records.old) line) }
 {
+    let earlier = &records[..n];
     let place = earlier.len();
     match line {
-        Line::Channel(c) => channel(b, c, place),
-        Line::Constant(n) => constant(n, place),
+        Line::Channel(c) => put(records, n, channel(b, c, place)),
+        Line::Constant(k) => put(records, n, constant(k, place)),
         Line::Sum(l, r) => {
             let (p, q) = two(earlier, l, r)?;
-            sum(p, q, place)
+            let made = sum(p, q, place);
+            put(records, n, made)
         }
         Line::Difference(l, r) => {
             let (p, q) = two(earlier, l, r)?;
-            difference(p, q, place)
+            let made = difference(p, q, place);
+            put(records, n, made)
         }
         Line::Product(l, r) => {
             let (p, q) = two(earlier, l, r)?;
-            product(p, q, place)
+            let made = product(p, q, place);
+            put(records, n, made)
         }
         Line::Quotient(l, r) => {
             let (p, q) = two(earlier, l, r)?;
-            quotient(p, q, place)
+            let made = quotient(p, q, place);
+            put(records, n, made)
         }
-        Line::Square(l) => lift(Square, operand(earlier, l)?, place),
-        Line::Magnitude(l) => lift(Magnitude, operand(earlier, l)?, place),
+        Line::Square(l) => {
+            let made = lift(Square, operand(earlier, l)?, place);
+            put(records, n, made)
+        }
+        Line::Magnitude(l) => {
+            let made = lift(Magnitude, operand(earlier, l)?, place);
+            put(records, n, made)
+        }
         Line::Greater(l, r) => {
             let (p, q) = two(earlier, l, r)?;
-            Ok(greater(p, q))
+            let made = greater(p, q);
+            put(records, n, Ok(made))
         }
         Line::Lesser(l, r) => {
             let (p, q) = two(earlier, l, r)?;
-            Ok(lesser(p, q))
+            let made = lesser(p, q);
+            put(records, n, Ok(made))
         }
         Line::Branch(s, q, r) => {
             let s = operand(earlier, s)?;
             let (q, r) = two(earlier, q, r)?;
-            Ok(branch(s, q, r))
+            let made = branch(s, q, r);
+            put(records, n, Ok(made))
         }
     }
 }
 
-// The record of one more line, or why it is refused. Lines that have the records of the rules tell the truth at every point of the box.
+// Makes the record of line n by those before it, in its place. A refusal leaves all records. Lines that have the records of the rules
+// tell the truth at every point of the box.
 #[inline(always)]
-pub fn record_of<K: NumberKind>(
+pub fn record_line<K: NumberKind>(
     b: &ChannelBox,
-    earlier: &[Record<K>],
+    records: &mut [Record<K>],
+    n: usize,
     line: Line,
-) -> Result<Record<K>, Fault>
-    ensures value { result ≡ rules.rule K.NumberKind.model (box_of b.now) earlier.now line }
+) -> Result<(), Fault>
+    ensures answer { result ≡ accepts (placed K.NumberKind.model (box_of b.now) records.old n line) }
+    ensures records { records.new ≡ stored records.old n (placed K.NumberKind.model (box_of b.now) records.old n line) }
     ensures truth { RecordsTrue K.NumberKind.model }
 {
-    record_steps(b, earlier, line)
+    if n >= records.len() {
+        return Err(Cause::Lines.at(0));
+    }
+    record_steps(b, records, n, line)
 }

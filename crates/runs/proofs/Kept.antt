@@ -27,7 +27,8 @@ use Rattle.runs.specs.declared.call.Call.{Call}
 use Rattle.runs.specs.declared.call.Call.TheVariants as calls
 use Rattle.runs.specs.declared.call.Moving.{Moving}
 use Rattle.runs.specs.declared.call.Opening.{Opening}
-use Rattle.sheet.specs.Calls.{Added, Opened, Recorded, Struck, accepts, grown, numbered, reopened, stored}
+use Rattle.rule.specs.Placed.{accepts, stored}
+use Rattle.sheet.specs.Calls.{Added, Opened, Recorded, Struck, grown, numbered, reopened}
 use Rattle.sheet.specs.Contents.{Contents}
 use Rattle.sheet.specs.Moving.{Moved, move_onto, new_box, renewed, shifted}
 use Rattle.sheet.specs.Reading.{Outcome, Read, filled, overlaid, read_onto}

@@ -19,7 +19,8 @@ use Rattle.runs.specs.declared.call.Answer.TheVariants as answers
 use Rattle.runs.specs.declared.call.Call.TheVariants as calls
 use Rattle.runs.specs.declared.call.Opening.{Opening}
 use Rattle.sheet.proofs.Made.{makes}
-use Rattle.sheet.specs.Calls.{Makes, accepts, next, reopened}
+use Rattle.rule.specs.Placed.{accepts}
+use Rattle.sheet.specs.Calls.{Makes, next, reopened}
 use Rattle.sheet.specs.Contents.{blank}
 use Rattle.slope.specs.declared.record.Record.{Record}
 

@@ -17,7 +17,8 @@ use Rattle.runs.specs.declared.call.Answer.{Answer}
 use Rattle.runs.specs.declared.call.Answer.TheVariants as answers
 use Rattle.runs.specs.declared.call.Call.{Call}
 use Rattle.runs.specs.declared.call.Call.TheVariants as calls
-use Rattle.sheet.specs.Calls.{Recorded, Written, accepts, next, numbered, report, strikes}
+use Rattle.rule.specs.Placed.{accepts}
+use Rattle.sheet.specs.Calls.{Recorded, Written, next, numbered, report, strikes}
 use Rattle.sheet.specs.Contents.{Contents}
 use Rattle.sheet.specs.Moving.{move_onto, new_box}
 use Rattle.sheet.specs.Reading.{Read, read_onto}

@@ -1,5 +1,5 @@
 -- What each call answers, and what it leaves. A call finds the contents s of the sheet and the working lines w; it answers r, and leaves s' and w'.
-use Rattle.std.specs.Prelude.{◌≡◌, ℕ, ◌-◌, cond, List, [], ◌∷◌, ◌++◌, length, take, true, is_ok, ℤ, Ok, Err, Result, ◌==◌, nat_lt, slice_set}
+use Rattle.std.specs.Prelude.{◌≡◌, ℕ, ◌-◌, cond, List, [], ◌∷◌, ◌++◌, length, take, true, is_ok, ℤ, Ok, Err, Result, ◌==◌, nat_lt}
 use Rattle.std.specs.List.{slice_get}
 use Rattle.boxes.specs.Boxes.{Box, opened}
 use Rattle.fault.specs.Refusals.{after, found, refused}
@@ -10,6 +10,7 @@ use Rattle.line.specs.declared.line.Line.{Line}
 use Rattle.report.specs.Reports.{reported}
 use Rattle.report.specs.declared.answer.Report.{Report}
 use Rattle.rule.specs.Fit.{Judged, fit}
+use Rattle.rule.specs.Placed.{accepts, stored}
 use Rattle.rule.specs.Records.{records}
 use Rattle.rule.specs.Rule.{rule}
 use Rattle.slope.specs.declared.record.Record.{Record}
@@ -17,10 +18,6 @@ use Rattle.writer.specs.Writing.{filled, needed}
 use Rattle.sheet.specs.Contents.{Contents}
 
 -- ---- open: an accepted box empties the sheet
-abbrev pub accepts : {X : Type 0} → Result X Fault → Result (Unit {0}) Fault
-accepts (Ok x) = Ok tt
-accepts (Err e) = Err e
-
 abbrev pub reopened : Contents → Result Box Fault → Contents
 reopened s (Ok b) = record { over = b; lines = [] }
 reopened s (Err e) = s
@@ -66,11 +63,6 @@ module _ {R : Type 0} where
   abbrev pub grown : Contents → Line → Result R Fault → Contents
   grown s line (Ok r) = with_line s line
   grown s line (Err e) = s
-
-  -- the record in the working line of its number
-  abbrev pub stored : List R → ℕ → Result R Fault → List R
-  stored w n (Ok r) = slice_set w n r
-  stored w n (Err e) = w
 
 module _ {K : Type 0} (m : Model K) where
   -- the record of one more line by those of the held lines, or why it is refused

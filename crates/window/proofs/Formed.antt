@@ -7,7 +7,8 @@ use Rattle.fault.specs.declared.fault.Cause.TheVariants.{Lines}
 use Rattle.fault.specs.declared.fault.Fault.{Fault}
 use Rattle.kind.specs.Model.{Model}
 use Rattle.runs.specs.Law.{sheet_of}
-use Rattle.sheet.specs.Calls.{accepts, reopened}
+use Rattle.rule.specs.Placed.{accepts}
+use Rattle.sheet.specs.Calls.{reopened}
 use Rattle.sheet.specs.Contents.{Contents}
 use Rattle.sheet.specs.Reading.{Read, ends, filled, goes_on, overlaid, read_formula, read_onto}
 use Rattle.slope.specs.declared.record.Record.{Record}

@@ -1,27 +1,29 @@
 // Adding one line.
 ghost use Rattle.std.specs.Prelude.{◌≡◌, ◌<◌, length, take};
 ghost use Rattle.sheet.specs.Contents.{Contents, contents};
-ghost use Rattle.sheet.specs.Calls.{Added, grown, numbered, stored};
+ghost use Rattle.rule.specs.Placed.{accepts, stored};
+ghost use Rattle.sheet.specs.Calls.{Added, grown, numbered};
 ghost use Rattle.sheet.specs.Calls as calls;
 
 use crate::sheet::Sheet;
-use crate::sheet::lending::{enough, keep};
+use crate::sheet::lending::enough;
 use fault::{Cause, Fault};
 use kind::NumberKind;
 use line::Line;
-use rule::record_of;
+use rule::record_line;
 use slope::Record;
 
 impl Sheet {
-    // The record of one more line, or why it is refused.
-    fn next<K: NumberKind>(&self, working: &[Record<K>], line: Line) -> Result<Record<K>, Fault>
-        ensures { result ≡ calls.next K.NumberKind.model (contents self.now) (length working.now) (take (length (contents self.now).lines) working.now) line }
+    // Makes the record of one more line in the working line of its number. A refusal leaves all records.
+    fn next<K: NumberKind>(&self, working: &mut [Record<K>], line: Line) -> Result<(), Fault>
+        ensures answer { result ≡ accepts (calls.next K.NumberKind.model (contents self.now) (length working.old) (take (length (contents self.now).lines) working.old) line) }
+        ensures records { working.new ≡ stored working.old (length (contents self.now).lines) (calls.next K.NumberKind.model (contents self.now) (length working.old) (take (length (contents self.now).lines) working.old) line) }
     {
         enough(working)?;
         if self.held == 64 {
             return Err(Cause::Full.at(64));
         }
-        record_of(&self.over, &working[..self.held], line)
+        record_line(&self.over, working, self.held, line)
     }
 
     fn hold(&mut self, line: Line)
@@ -43,8 +45,7 @@ impl Sheet {
         ensures records { working.new ≡ stored working.old (length (contents self.old).lines) (calls.next K.NumberKind.model (contents self.old) (length working.old) (take (length (contents self.old).lines) working.old) line) }
     {
         let n = self.held;
-        let made = self.next(working, line)?;
-        keep(working, n, made);
+        self.next(working, line)?;
         self.hold(line);
         Ok(n)
     }

@@ -1,19 +1,17 @@
 // Moving a channel.
-ghost use Rattle.std.specs.Prelude.{◌≡◌, ◌<◌, ◌≤◌, [], get_or, length, take, Ok};
+ghost use Rattle.std.specs.Prelude.{◌≡◌, ◌≤◌, [], length, take, Ok};
 ghost use Rattle.boxes.specs.Stored.{box_of, boxed};
-ghost use Rattle.line.specs.declared.line.Line.TheVariants.{Channel};
-ghost use Rattle.rule.specs.Rule.{rule};
 ghost use Rattle.sheet.specs.Contents.{contents};
 ghost use Rattle.sheet.specs.Moving.{Moved, MovedTo, records_over, remade};
 ghost use Rattle.sheet.specs.Moving as moving;
 ghost use Rattle.sheet.specs.Reading.{overlaid};
 
 use crate::sheet::Sheet;
-use crate::sheet::lending::{enough, keep};
+use crate::sheet::lending::enough;
 use boxes::ChannelBox;
 use fault::Fault;
 use kind::NumberKind;
-use rule::record_of;
+use rule::record_line;
 use slope::Record;
 
 // The first so many records become those of another slice.
@@ -26,19 +24,6 @@ fn copy<K: NumberKind>(to: &mut [Record<K>], from: &[Record<K>], count: usize)
 }
 
 impl Sheet {
-    // The record of a held line over a box, by those of the lines before it.
-    #[inline(always)]
-    fn renewed<K: NumberKind>(
-        &self,
-        over: &ChannelBox,
-        earlier: &[Record<K>],
-    ) -> Result<Record<K>, Fault>
-        requires { length earlier.now < self.now.held }
-        ensures { result ≡ rule K.NumberKind.model (box_of over.now) earlier.now (get_or self.now.lines (length earlier.now) (Channel 0)) }
-    {
-        record_of(over, earlier, self.lines[earlier.len()])
-    }
-
     // Another box under the held lines.
     fn lay(&mut self, over: ChannelBox)
         ensures { contents self.new ≡ record { over = box_of over; lines = (contents self.old).lines } }
@@ -54,8 +39,7 @@ impl Sheet {
         ensures records { spare.new ≡ overlaid (remade K.NumberKind.model (box_of over.now) (contents self.now).lines [] []).records spare.old }
     {
         for n in 0..self.held {
-            let made = self.renewed(over, &spare[..n])?;
-            keep(spare, n, made);
+            record_line(over, spare, n, self.lines[n])?;
         }
         Ok(())
     }

@@ -5,12 +5,12 @@ ghost use Rattle.sheet.specs.Contents.{contents};
 ghost use Rattle.sheet.specs.Reading.{Read, ReadTrips, filled, overlaid, read_formula, read_lines, read_onto};
 
 use crate::sheet::Sheet;
-use crate::sheet::lending::{enough, keep};
+use crate::sheet::lending::enough;
 use fault::{Cause, Fault};
 use kind::NumberKind;
 use leb::Place;
 use reader::{count_at, end_at, line_at};
-use rule::record_of;
+use rule::record_line;
 use slope::Record;
 
 impl Sheet {
@@ -35,8 +35,7 @@ impl Sheet {
         // n is the line's number: its place in the table and among the working lines, and how many are earlier
         for n in 0..count {
             let line = line_at(bytes, &mut place)?;
-            let made = record_of(&self.over, &working[..n], line)?;
-            keep(working, n, made);
+            record_line(&self.over, working, n, line)?;
             self.lines[n] = line;
         }
         end_at(bytes, place)
