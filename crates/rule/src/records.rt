@@ -80,22 +80,7 @@ fn two<K: NumberKind>(
     Ok((p, q))
 }
 
-// Puts a record that was made into its place.
-#[inline(always)]
-fn put<K: NumberKind>(
-    records: &mut [Record<K>],
-    n: usize,
-    made: Result<Record<K>, Fault>,
-) -> Result<(), Fault>
-    requires { n < length records.old }
-    ensures answer { result ≡ accepts made }
-    ensures records { records.new ≡ stored records.old n made }
-{
-    records[n] = made?;
-    Ok(())
-}
-
-// Each arm puts its own record into its place: with one `put` behind them all, records would be copied once more.
+// Each arm puts its own record into its place: with one assignment behind them all, records would be copied once more.
 #[inline(always)]
 fn record_steps<K: NumberKind>(
     b: &ChannelBox,
@@ -110,53 +95,41 @@ fn record_steps<K: NumberKind>(
     let earlier = &records[..n];
     let place = earlier.len();
     match line {
-        Line::Channel(c) => put(records, n, channel(b, c, place)),
-        Line::Constant(k) => put(records, n, constant(k, place)),
+        Line::Channel(c) => records[n] = channel(b, c, place)?,
+        Line::Constant(k) => records[n] = constant(k, place)?,
         Line::Sum(l, r) => {
             let (p, q) = two(earlier, l, r)?;
-            let made = sum(p, q, place);
-            put(records, n, made)
+            records[n] = sum(p, q, place)?;
         }
         Line::Difference(l, r) => {
             let (p, q) = two(earlier, l, r)?;
-            let made = difference(p, q, place);
-            put(records, n, made)
+            records[n] = difference(p, q, place)?;
         }
         Line::Product(l, r) => {
             let (p, q) = two(earlier, l, r)?;
-            let made = product(p, q, place);
-            put(records, n, made)
+            records[n] = product(p, q, place)?;
         }
         Line::Quotient(l, r) => {
             let (p, q) = two(earlier, l, r)?;
-            let made = quotient(p, q, place);
-            put(records, n, made)
+            records[n] = quotient(p, q, place)?;
         }
-        Line::Square(l) => {
-            let made = lift(Square, operand(earlier, l)?, place);
-            put(records, n, made)
-        }
-        Line::Magnitude(l) => {
-            let made = lift(Magnitude, operand(earlier, l)?, place);
-            put(records, n, made)
-        }
+        Line::Square(l) => records[n] = lift(Square, operand(earlier, l)?, place)?,
+        Line::Magnitude(l) => records[n] = lift(Magnitude, operand(earlier, l)?, place)?,
         Line::Greater(l, r) => {
             let (p, q) = two(earlier, l, r)?;
-            let made = greater(p, q);
-            put(records, n, Ok(made))
+            records[n] = greater(p, q);
         }
         Line::Lesser(l, r) => {
             let (p, q) = two(earlier, l, r)?;
-            let made = lesser(p, q);
-            put(records, n, Ok(made))
+            records[n] = lesser(p, q);
         }
         Line::Branch(s, q, r) => {
             let s = operand(earlier, s)?;
             let (q, r) = two(earlier, q, r)?;
-            let made = branch(s, q, r);
-            put(records, n, Ok(made))
+            records[n] = branch(s, q, r);
         }
     }
+    Ok(())
 }
 
 // Makes the record of line n by those before it, in its place. A refusal leaves all records. Lines that have the records of the rules
