@@ -1,16 +1,19 @@
 // Making the record of a line.
-ghost use Rattle.std.specs.Prelude.{◌≡◌, ◌<◌, length, take};
+ghost use Rattle.std.specs.Prelude.{◌≡◌, ◌<◌, Ok, length, take};
 ghost use Rattle.std.specs.List.{slice_get};
-ghost use Rattle.fault.specs.Refusals.{found};
+ghost use Rattle.fault.specs.Refusals.{after, found};
 ghost use Rattle.fault.specs.declared.fault.Cause.TheVariants.{NoChannel};
 ghost use Rattle.boxes.specs.Stored.{box_of};
 ghost use Rattle.rule.specs.Lent.{lent, lent_two};
 ghost use Rattle.rule.specs.Placed.{accepts, placed, stored};
 ghost use Rattle.rule.specs.Records.{RecordsTrue};
 ghost use Rattle.rule.specs.Rule as rules;
+ghost use Rattle.slope.specs.Curves.{lift};
+ghost use Rattle.slope.specs.Rules.{given};
+ghost use Rattle.slope.specs.Rules as slope;
 
 use boxes::{ChannelBox, Range, count, range_at};
-use curve::{Magnitude, Square, lift};
+use curve::{Curve, Magnitude, Square, lift};
 use fault::{Cause, Fault};
 use kind::NumberKind;
 use line::Line;
@@ -80,7 +83,168 @@ fn two<K: NumberKind>(
     Ok((p, q))
 }
 
-// Each arm puts its own record into its place: with one assignment behind them all, records would be copied once more.
+// Each operation puts its own record into its place, in a function of its own: what one needs on the stack is not set up for another.
+#[inline(never)]
+fn put_sum<K: NumberKind>(
+    records: &mut [Record<K>],
+    n: usize,
+    l: usize,
+    r: usize,
+) -> Result<(), Fault>
+    requires { n < length records.old }
+    ensures answer { result ≡ accepts (after (rules.two (take n records.old) l r) (λ p. given (length (take n records.old)) (slope.sum K.NumberKind.model p.0 p.1))) }
+    ensures records { records.new ≡ stored records.old n (after (rules.two (take n records.old) l r) (λ p. given (length (take n records.old)) (slope.sum K.NumberKind.model p.0 p.1))) }
+{
+    let earlier = &records[..n];
+    let (p, q) = two(earlier, l, r)?;
+    records[n] = sum(p, q, n)?;
+    Ok(())
+}
+
+#[inline(never)]
+fn put_difference<K: NumberKind>(
+    records: &mut [Record<K>],
+    n: usize,
+    l: usize,
+    r: usize,
+) -> Result<(), Fault>
+    requires { n < length records.old }
+    ensures answer { result ≡ accepts (after (rules.two (take n records.old) l r) (λ p. given (length (take n records.old)) (slope.difference K.NumberKind.model p.0 p.1))) }
+    ensures records { records.new ≡ stored records.old n (after (rules.two (take n records.old) l r) (λ p. given (length (take n records.old)) (slope.difference K.NumberKind.model p.0 p.1))) }
+{
+    let earlier = &records[..n];
+    let (p, q) = two(earlier, l, r)?;
+    records[n] = difference(p, q, n)?;
+    Ok(())
+}
+
+#[inline(never)]
+fn put_product<K: NumberKind>(
+    records: &mut [Record<K>],
+    n: usize,
+    l: usize,
+    r: usize,
+) -> Result<(), Fault>
+    requires { n < length records.old }
+    ensures answer { result ≡ accepts (after (rules.two (take n records.old) l r) (λ p. given (length (take n records.old)) (slope.product K.NumberKind.model p.0 p.1))) }
+    ensures records { records.new ≡ stored records.old n (after (rules.two (take n records.old) l r) (λ p. given (length (take n records.old)) (slope.product K.NumberKind.model p.0 p.1))) }
+{
+    let earlier = &records[..n];
+    let (p, q) = two(earlier, l, r)?;
+    records[n] = product(p, q, n)?;
+    Ok(())
+}
+
+#[inline(never)]
+fn put_quotient<K: NumberKind>(
+    records: &mut [Record<K>],
+    n: usize,
+    l: usize,
+    r: usize,
+) -> Result<(), Fault>
+    requires { n < length records.old }
+    ensures answer { result ≡ accepts (after (rules.two (take n records.old) l r) (λ p. slope.divided K.NumberKind.model (length (take n records.old)) p.0 p.1)) }
+    ensures records { records.new ≡ stored records.old n (after (rules.two (take n records.old) l r) (λ p. slope.divided K.NumberKind.model (length (take n records.old)) p.0 p.1)) }
+{
+    let earlier = &records[..n];
+    let (p, q) = two(earlier, l, r)?;
+    records[n] = quotient(p, q, n)?;
+    Ok(())
+}
+
+#[inline(never)]
+fn put_greater<K: NumberKind>(
+    records: &mut [Record<K>],
+    n: usize,
+    l: usize,
+    r: usize,
+) -> Result<(), Fault>
+    requires { n < length records.old }
+    ensures answer { result ≡ accepts (after (rules.two (take n records.old) l r) (λ p. Ok (slope.greater K.NumberKind.model p.0 p.1))) }
+    ensures records { records.new ≡ stored records.old n (after (rules.two (take n records.old) l r) (λ p. Ok (slope.greater K.NumberKind.model p.0 p.1))) }
+{
+    let earlier = &records[..n];
+    let (p, q) = two(earlier, l, r)?;
+    records[n] = greater(p, q);
+    Ok(())
+}
+
+#[inline(never)]
+fn put_lesser<K: NumberKind>(
+    records: &mut [Record<K>],
+    n: usize,
+    l: usize,
+    r: usize,
+) -> Result<(), Fault>
+    requires { n < length records.old }
+    ensures answer { result ≡ accepts (after (rules.two (take n records.old) l r) (λ p. Ok (slope.lesser K.NumberKind.model p.0 p.1))) }
+    ensures records { records.new ≡ stored records.old n (after (rules.two (take n records.old) l r) (λ p. Ok (slope.lesser K.NumberKind.model p.0 p.1))) }
+{
+    let earlier = &records[..n];
+    let (p, q) = two(earlier, l, r)?;
+    records[n] = lesser(p, q);
+    Ok(())
+}
+
+#[inline(never)]
+fn put_branch<K: NumberKind>(
+    records: &mut [Record<K>],
+    n: usize,
+    s: usize,
+    q: usize,
+    r: usize,
+) -> Result<(), Fault>
+    requires { n < length records.old }
+    ensures answer { result ≡ accepts (after (rules.all_three (take n records.old) s q r) (λ p. Ok (slope.branch K.NumberKind.model p.0 p.1 p.2))) }
+    ensures records { records.new ≡ stored records.old n (after (rules.all_three (take n records.old) s q r) (λ p. Ok (slope.branch K.NumberKind.model p.0 p.1 p.2))) }
+{
+    let earlier = &records[..n];
+    let s = operand(earlier, s)?;
+    let (q, r) = two(earlier, q, r)?;
+    records[n] = branch(s, q, r);
+    Ok(())
+}
+
+#[inline(never)]
+fn put_curve<K: NumberKind, C: Curve<K>>(
+    records: &mut [Record<K>],
+    n: usize,
+    curve: C,
+    l: usize,
+) -> Result<(), Fault>
+    requires { n < length records.old }
+    ensures answer { result ≡ accepts (after (rules.operand (take n records.old) l) (λ p. given (length (take n records.old)) (lift K.NumberKind.model C.Curve.image C.Curve.bend p))) }
+    ensures records { records.new ≡ stored records.old n (after (rules.operand (take n records.old) l) (λ p. given (length (take n records.old)) (lift K.NumberKind.model C.Curve.image C.Curve.bend p))) }
+{
+    records[n] = lift(curve, operand(&records[..n], l)?, n)?;
+    Ok(())
+}
+
+#[inline(never)]
+fn put_channel<K: NumberKind>(
+    b: &ChannelBox,
+    records: &mut [Record<K>],
+    n: usize,
+    c: usize,
+) -> Result<(), Fault>
+    requires { n < length records.old }
+    ensures answer { result ≡ accepts (rules.channel K.NumberKind.model (box_of b.now) c (length (take n records.old))) }
+    ensures records { records.new ≡ stored records.old n (rules.channel K.NumberKind.model (box_of b.now) c (length (take n records.old))) }
+{
+    records[n] = channel(b, c, n)?;
+    Ok(())
+}
+
+#[inline(never)]
+fn put_constant<K: NumberKind>(records: &mut [Record<K>], n: usize, k: i64) -> Result<(), Fault>
+    requires { n < length records.old }
+    ensures answer { result ≡ accepts (rules.constant K.NumberKind.model k (length (take n records.old))) }
+    ensures records { records.new ≡ stored records.old n (rules.constant K.NumberKind.model k (length (take n records.old))) }
+{
+    records[n] = constant(k, n)?;
+    Ok(())
+}
+
 #[inline(always)]
 fn record_steps<K: NumberKind>(
     b: &ChannelBox,
@@ -92,44 +256,19 @@ fn record_steps<K: NumberKind>(
     ensures answer { result ≡ accepts (rules.rule K.NumberKind.model (box_of b.now) (take n records.old) line) }
     ensures records { records.new ≡ stored records.old n (rules.rule K.NumberKind.model (box_of b.now) (take n records.old) line) }
 {
-    let earlier = &records[..n];
-    let place = earlier.len();
     match line {
-        Line::Channel(c) => records[n] = channel(b, c, place)?,
-        Line::Constant(k) => records[n] = constant(k, place)?,
-        Line::Sum(l, r) => {
-            let (p, q) = two(earlier, l, r)?;
-            records[n] = sum(p, q, place)?;
-        }
-        Line::Difference(l, r) => {
-            let (p, q) = two(earlier, l, r)?;
-            records[n] = difference(p, q, place)?;
-        }
-        Line::Product(l, r) => {
-            let (p, q) = two(earlier, l, r)?;
-            records[n] = product(p, q, place)?;
-        }
-        Line::Quotient(l, r) => {
-            let (p, q) = two(earlier, l, r)?;
-            records[n] = quotient(p, q, place)?;
-        }
-        Line::Square(l) => records[n] = lift(Square, operand(earlier, l)?, place)?,
-        Line::Magnitude(l) => records[n] = lift(Magnitude, operand(earlier, l)?, place)?,
-        Line::Greater(l, r) => {
-            let (p, q) = two(earlier, l, r)?;
-            records[n] = greater(p, q);
-        }
-        Line::Lesser(l, r) => {
-            let (p, q) = two(earlier, l, r)?;
-            records[n] = lesser(p, q);
-        }
-        Line::Branch(s, q, r) => {
-            let s = operand(earlier, s)?;
-            let (q, r) = two(earlier, q, r)?;
-            records[n] = branch(s, q, r);
-        }
+        Line::Channel(c) => put_channel(b, records, n, c),
+        Line::Constant(k) => put_constant(records, n, k),
+        Line::Sum(l, r) => put_sum(records, n, l, r),
+        Line::Difference(l, r) => put_difference(records, n, l, r),
+        Line::Product(l, r) => put_product(records, n, l, r),
+        Line::Quotient(l, r) => put_quotient(records, n, l, r),
+        Line::Square(l) => put_curve(records, n, Square, l),
+        Line::Magnitude(l) => put_curve(records, n, Magnitude, l),
+        Line::Greater(l, r) => put_greater(records, n, l, r),
+        Line::Lesser(l, r) => put_lesser(records, n, l, r),
+        Line::Branch(s, q, r) => put_branch(records, n, s, q, r),
     }
-    Ok(())
 }
 
 // Makes the record of line n by those before it, in its place. A refusal leaves all records. Lines that have the records of the rules
