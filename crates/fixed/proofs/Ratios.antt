@@ -1,18 +1,20 @@
 -- What the code computes in 64 bits, as ratios of counts.
-use Rattle.std.proofs.Common.{◌≡◌, ℕ, ◌*◌, ◌<◌, ℤ, pos, negsuc, ◌*ℤ◌, neg_ℤ, nat_abs, ◌≤ℤ◌, Some, None, sym, refl, ap, ◌∙◌, subst, arith, lit<}
+use Rattle.std.proofs.Common.{◌≡◌, ℕ, ◌*◌, ◌<◌, ◌≤◌, [], ◌∷◌, ℤ, pos, negsuc, ◌+ℤ◌, ◌*ℤ◌, neg_ℤ, nat_abs, ◌≤ℤ◌, ◌<ℤ◌, Some, None, w32, w64, to_z, of_z, sym, refl, ap, ◌∙◌, subst, arith, lit<}
 use borrow.Author.Differences.{ints}
 use lib.IntN.{neg_ℤ-neg_ℤ}
-use lib.Signed.{le_z}
+use lib.Signed.{le_z, shr_z}
+use Rattle.std.proofs.lemmas.Int.{to_z-of_z}
 use Rattle.std.specs.Int.{int_div_euclid}
-use Rattle.exact.proofs.Floors.{floor_exact, floor_greatest, floor_low}
-use Rattle.exact.proofs.Integers.{leZ_times, ≤ℤ_cancel, ≤ℤ_trans}
+use Rattle.exact.proofs.Floors.{floor_between, floor_exact, floor_greatest, floor_low}
+use Rattle.exact.proofs.Integers.{leZ_times, ring, ≤ℤ_cancel, ≤ℤ_trans}
+use Rattle.exact.proofs.Ring.{num, x0, x1, ◌⊗◌, ◌⊕◌}
 use Rattle.exact.specs.Floor.{ceiling, floor}
 use Rattle.exact.specs.Fraction.{◌≈◌, le_F, neg_F}
 use Rattle.kind.proofs.GridOps.{above, below}
-use Rattle.kind.proofs.GridRules.{ratio_none_over, ratio_none_under, ratio_some}
+use Rattle.kind.proofs.GridRules.{above_of, ratio_none_over, ratio_none_under, ratio_some}
 use Rattle.kind.specs.Grid.{grid_above, grid_below, grid_value, units_over}
 use Rattle.kind.specs.Model.{count}
-use Rattle.fixed.specs.Rules.{fixed_lawful}
+use Rattle.fixed.specs.Rules.{fixed_lawful, same_mark}
 use Rattle.fixed.specs.Grid.{Count, fixed_grid}
 use Rattle.fixed.specs.declared.mark.Fixed.{Fixed}
 
@@ -28,6 +30,20 @@ pub fixed_none : (n : ℤ) (d : ℕ) (h : 0 < d) → 1073741823 * d < nat_abs n 
 fixed_none (pos a) d h p = ratio_none_over fixed_grid fixed_lawful (pos a) d h (omega (arith, ints))
 fixed_none (negsuc a) d h p = ratio_none_under fixed_grid fixed_lawful (negsuc a) d h (omega (arith, ints))
 
+-- the floor of a product is a shift
+shift_plain : (n : ℤ) → nat_abs n ≤ 1073741823 * 65536 → to_z w32 (of_z w32 (to_z w64 (of_z w64 (shr_z n 65536)))) ≡ int_div_euclid n (pos 65536)
+shift_plain (pos a) h = omega (arith, ints)
+shift_plain (negsuc a) h = omega (arith, ints)
+
+pub shift_count : (n : ℤ) → nat_abs n ≤ 1073741823 * 65536 → to_z w32 (of_z w32 (to_z w64 (of_z w64 (shr_z (to_z w64 (of_z w64 n)) 65536)))) ≡ int_div_euclid n (pos 65536)
+shift_count n h = rw (to_z-of_z w64 n (omega (arith, ints))) (shift_plain n h)
+
+-- q is the floor where the rest, n − q·d, is from 0 to below d
+pub floor_at : (n q : ℤ) (d : ℕ) → 0 < d → (q *ℤ pos d) ≤ℤ n → n <ℤ (q *ℤ pos d +ℤ pos d) → q ≡ int_div_euclid n (pos d)
+floor_at n q d h low high =
+    let next : (q +ℤ pos 1) *ℤ pos d ≡ q *ℤ pos d +ℤ pos d = ring (q ∷ pos d ∷ []) ((x0 ⊕ num (pos 1)) ⊗ x1) (x0 ⊗ x1 ⊕ x1) refl in
+    sym (floor_between n q d h low (rw next high))
+
 -- at the number that is meant
 module _ (z n : ℤ) (d : ℕ) (g h : 0 < d) (e : z ≡ n) where
   same : units_over fixed_grid z d g ≈ units_over fixed_grid n d h
@@ -40,9 +56,33 @@ module _ (z n : ℤ) (d : ℕ) (g h : 0 < d) (e : z ≡ n) where
   pub at_above : grid_above fixed_grid (units_over fixed_grid z d g) ≡ grid_above fixed_grid (units_over fixed_grid n d h)
   at_above = above fixed_grid fixed_lawful _ _ same
 
-pub at_count : (n : ℤ) (h : 0 < 1) → units_over fixed_grid n 1 h ≈ count n
-unfolding units_over
-at_count n h = record { cross = refl }
+-- ---- n counts, where nothing is rounded
+module _ (n : ℤ) where
+  at_count : units_over fixed_grid n 1 (lit< tt) ≈ count n
+  unfolding units_over
+  at_count = record { cross = refl }
+
+  pub below_count : grid_below fixed_grid (units_over fixed_grid n 1 (lit< tt)) ≡ grid_below fixed_grid (count n)
+  below_count = below fixed_grid fixed_lawful _ _ at_count
+
+  pub above_count : grid_above fixed_grid (units_over fixed_grid n 1 (lit< tt)) ≡ grid_above fixed_grid (count n)
+  above_count = above fixed_grid fixed_lawful _ _ at_count
+
+some_whole : (n : ℤ) (f : Fixed) → f.count ≡ n → Some f ≡ grid_below fixed_grid (units_over fixed_grid n 1 (lit< tt))
+some_whole n f e = fixed_some n 1 (lit< tt) f (e ∙ sym (floor_between n n 1 (lit< tt) (omega (arith, ints)) (omega (arith, ints)))) (let p = f.fits in omega (arith, ints))
+
+pub whole_below : (n : ℤ) (f : Fixed) → f.count ≡ n → Some f ≡ grid_below fixed_grid (count n)
+whole_below n f e = some_whole n f e ∙ below_count n
+
+pub whole_above : (n : ℤ) (f : Fixed) → f.count ≡ n → Some f ≡ grid_above fixed_grid (count n)
+whole_above n f e = ap Some (same_mark f _ (sym (neg_ℤ-neg_ℤ f.count)))
+    ∙ above_of fixed_grid fixed_lawful n (neg_ℤ n) 1 (lit< tt) (Some (fixed_grid.minus f)) refl (some_whole (neg_ℤ n) (fixed_grid.minus f) (ap neg_ℤ e)) ∙ above_count n
+
+pub beyond_below : (n : ℤ) → 1073741823 < nat_abs n → None ≡ grid_below fixed_grid (count n)
+beyond_below n p = fixed_none n 1 (lit< tt) p ∙ below_count n
+
+pub beyond_above : (n : ℤ) → 1073741823 < nat_abs n → None ≡ grid_above fixed_grid (count n)
+beyond_above n p = above_of fixed_grid fixed_lawful n (neg_ℤ n) 1 (lit< tt) None refl (fixed_none (neg_ℤ n) 1 (lit< tt) (omega (arith, ints))) ∙ above_count n
 
 -- ---- order and whole numbers
 pub le_count : (a b : Fixed) → le_F (grid_value fixed_grid a) (grid_value fixed_grid b) ≡ le_z a.count b.count

@@ -1,20 +1,31 @@
--- What a ratio of counts rounds to.
-use Rattle.std.specs.Prelude.{Option}
+-- What the exact product and the exact quotient of two marks round to.
+use Rattle.std.specs.Prelude.{Option, pos, ◌*ℤ◌}
+use Rattle.std.proofs.Common.{lit<}
 use Rattle.exact.specs.Fraction.{Frac}
 use Rattle.exact.specs.Optional.{◌>>=◌}
 use Rattle.kind.specs.Grid.{grid_above, grid_below, units_over}
 use Rattle.fixed.specs.Grid.{fixed_grid}
 use Rattle.fixed.specs.declared.mark.Fixed.{Fixed}
+use Rattle.fixed.specs.declared.ratio.Product.{Product}
 use Rattle.fixed.specs.declared.ratio.Ratio.{Ratio}
 
-abbrev pub exact : Ratio → Frac
-exact q = units_over fixed_grid q.n q.d q.positive
+abbrev pub product : Product → Frac
+product p = units_over fixed_grid p.n 65536 (lit< tt)
+
+abbrev pub product_below : Product → Option Fixed
+product_below p = grid_below fixed_grid (product p)
+
+abbrev pub product_above : Product → Option Fixed
+product_above p = grid_above fixed_grid (product p)
+
+abbrev pub ratio : Ratio → Frac
+ratio q = units_over fixed_grid (q.n *ℤ pos 65536) q.d q.positive
 
 abbrev pub below : Ratio → Option Fixed
-below q = grid_below fixed_grid (exact q)
+below q = grid_below fixed_grid (ratio q)
 
 abbrev pub above : Ratio → Option Fixed
-above q = grid_above fixed_grid (exact q)
+above q = grid_above fixed_grid (ratio q)
 
 -- of a ratio that may be absent
 abbrev pub maybe_below : Option Ratio → Option Fixed

@@ -7,7 +7,7 @@ ghost use Rattle.fixed.specs.Ratios as ratios;
 ghost use Rattle.fixed.specs.Rules.{fixed_rules};
 
 use crate::mark::Fixed;
-use crate::ratio::{Ratio, TOP};
+use crate::ratio::{Product, Ratio, TOP};
 use kind::NumberKind;
 
 impl Fixed {
@@ -17,12 +17,10 @@ impl Fixed {
         ensures value { result ≡ mark_of n }
         ensures marks { FixedMarks }
     {
-        if n.unsigned_abs() > TOP {
-            return None;
-        }
-        Some(Fixed { count: n as i32 })
+        whole(n)
     }
 
+    #[inline(always)]
     pub(crate) fn opposite(self) -> Fixed
         ensures { result ≡ fixed_grid.minus self }
     {
@@ -30,51 +28,49 @@ impl Fixed {
     }
 }
 
-// n counts
-fn whole(n: i32) -> Ratio
-    ensures below { ratios.below result ≡ kinds.count_below fixed_model n }
-    ensures above { ratios.above result ≡ kinds.count_above fixed_model n }
+// The mark of n counts. Nothing is rounded, so it is also the one below and the one above.
+#[inline(always)]
+fn whole(n: i64) -> Option<Fixed>
+    ensures value { result ≡ mark_of n }
+    ensures below { result ≡ kinds.count_below fixed_model n }
+    ensures above { result ≡ kinds.count_above fixed_model n }
 {
-    Ratio {
-        n: i64::from(n),
-        d: 1,
+    if n < -TOP || n > TOP {
+        return None;
     }
+    Some(Fixed { count: n as i32 })
 }
 
-fn sum(a: Fixed, b: Fixed) -> Ratio
-    ensures below { ratios.below result ≡ kinds.sum_below fixed_model a b }
-    ensures above { ratios.above result ≡ kinds.sum_above fixed_model a b }
+// The sum of two marks is a number of counts.
+#[inline(always)]
+fn sum(a: Fixed, b: Fixed) -> Option<Fixed>
+    ensures below { result ≡ kinds.sum_below fixed_model a b }
+    ensures above { result ≡ kinds.sum_above fixed_model a b }
 {
-    Ratio {
-        n: i64::from(a.count) + i64::from(b.count),
-        d: 1,
-    }
+    whole(i64::from(a.count) + i64::from(b.count))
 }
 
 #[inline(always)]
-fn product(a: Fixed, b: Fixed) -> Ratio
-    ensures below { ratios.below result ≡ kinds.product_below fixed_model a b }
-    ensures above { ratios.above result ≡ kinds.product_above fixed_model a b }
+fn product(a: Fixed, b: Fixed) -> Product
+    ensures below { ratios.product_below result ≡ kinds.product_below fixed_model a b }
+    ensures above { ratios.product_above result ≡ kinds.product_above fixed_model a b }
 {
-    Ratio {
+    Product {
         n: i64::from(a.count) * i64::from(b.count),
-        d: 65536,
     }
 }
 
 // Absent for the divisor 0.
+#[inline(always)]
 fn quotient(a: Fixed, b: Fixed) -> Option<Ratio>
     ensures below { ratios.maybe_below result ≡ kinds.quotient_below fixed_model a b }
     ensures above { ratios.maybe_above result ≡ kinds.quotient_above fixed_model a b }
 {
-    let n = i64::from(a.count) * 65536;
-    let d = b.count.unsigned_abs();
     if b.count == 0 {
         return None;
     }
-    if b.count < 0 {
-        return Some(Ratio { n: -n, d });
-    }
+    let n = if b.count < 0 { -a.count } else { a.count };
+    let d = b.count.unsigned_abs();
     Some(Ratio { n, d })
 }
 
@@ -84,29 +80,35 @@ impl NumberKind for Fixed {
 
     ghost rules = { fixed_rules };
 
+    #[inline(always)]
     fn zero() -> Fixed {
         Fixed { count: 0 }
     }
 
+    #[inline(always)]
     fn one() -> Fixed {
         Fixed { count: 65536 }
     }
 
+    #[inline(always)]
     #[tactic(auto, using(crate::proofs::Ratios::le_count))]
     fn at_most(self, other: Fixed) -> bool {
         self.count <= other.count
     }
 
+    #[inline(always)]
     fn negated(self) -> Fixed {
         self.opposite()
     }
 
+    #[inline(always)]
     fn sum_below(self, other: Fixed) -> Option<Fixed> {
-        sum(self, other).below()
+        sum(self, other)
     }
 
+    #[inline(always)]
     fn sum_above(self, other: Fixed) -> Option<Fixed> {
-        sum(self, other).above()
+        sum(self, other)
     }
 
     #[inline(always)]
@@ -119,27 +121,33 @@ impl NumberKind for Fixed {
         product(self, other).above()
     }
 
+    #[inline(always)]
     fn quotient_below(self, other: Fixed) -> Option<Fixed> {
         quotient(self, other)?.below()
     }
 
+    #[inline(always)]
     fn quotient_above(self, other: Fixed) -> Option<Fixed> {
         quotient(self, other)?.above()
     }
 
+    #[inline(always)]
     fn count_below(n: i32) -> Option<Fixed> {
-        whole(n).below()
+        whole(i64::from(n))
     }
 
+    #[inline(always)]
     fn count_above(n: i32) -> Option<Fixed> {
-        whole(n).above()
+        whole(i64::from(n))
     }
 
+    #[inline(always)]
     #[tactic(auto, using(crate::proofs::Ratios::floor_of_count))]
     fn floor(self) -> i64 {
         i64::from(self.count)
     }
 
+    #[inline(always)]
     #[tactic(auto, using(crate::proofs::Ratios::ceiling_of_count))]
     fn ceiling(self) -> i64 {
         i64::from(self.count)

@@ -1,30 +1,86 @@
-// Ratios of counts, and their rounding to marks in 64 bits.
-ghost use Rattle.std.specs.Prelude.{◌≡◌, ◌^◌, ◌<◌, ◌≤◌, pos, unsigned_abs};
+// The exact product and the exact quotient of two marks, and their rounding to marks in 64 bits.
+ghost use Rattle.std.specs.Prelude.{◌≡◌, ◌^◌, ◌<◌, ◌≤◌, pos, ◌*ℤ◌, unsigned_abs};
 ghost use Rattle.std.specs.Int.{int_div_euclid};
 
 use crate::mark::Fixed;
+use std::num::f64_to_bits_with_nan;
 
 // The greatest count of a mark.
-pub const TOP: u64 = 1_073_741_823;
+pub const TOP: i64 = 1_073_741_823;
 
-// n / d counts.
+// n/65,536 counts, where n is the product of two counts.
+#[derive(Clone, Copy)]
+pub struct Product {
+    pub n: i64,
+    ghost bounded: { unsigned_abs n ≤ 2 ^ 60 },
+}
+
+impl Product {
+    ghost use Rattle.fixed.specs.Ratios as ratios;
+
+    // The greatest mark not above the product. The shift is the floor, also where n is negative.
+    #[inline(always)]
+    pub fn below(self) -> Option<Fixed>
+        ensures { result ≡ ratios.product_below self }
+    {
+        if self.n < -TOP * 65536 || self.n > TOP * 65536 {
+            return None;
+        }
+        Some(Fixed {
+            count: (self.n >> 16) as i32,
+        })
+    }
+
+    // The least mark not below the product, by the mirror image.
+    #[inline(always)]
+    pub fn above(self) -> Option<Fixed>
+        ensures { result ≡ ratios.product_above self }
+    {
+        Product { n: -self.n }.below().map(Fixed::opposite)
+    }
+}
+
+// n/d for counts n and d, which is the quotient of their marks too.
 #[derive(Clone, Copy)]
 pub struct Ratio {
-    pub n: i64,
+    pub n: i32,
     pub d: u32,
     ghost positive: { 0 < d },
-    ghost bounded: { unsigned_abs n ≤ 2 ^ 62 },
+    ghost bounded: { unsigned_abs n < 2 ^ 30 },
 }
 
 impl Ratio {
     ghost use Rattle.fixed.specs.Ratios as ratios;
 
-    // Rounded down to a whole number, also where it is negative.
+    // A guess at `floor`, by 64-bit floats, which divide faster than 64-bit integers. Only its size is promised, since `floor` tests it. For n and d in
+    // counts, (2·65,536·n + 1 − d) / 2d lies less than a half from the floor, so that the nearest whole number is the floor. To that the sum with
+    // 2^52 + 2^51 + 2^30 is rounded, and its last 31 bits hold it, greater by 2^30.
+    #[inline(always)]
+    fn guess(self) -> i64
+        ensures { unsigned_abs result ≤ 2 ^ 30 }
+    {
+        let n = f64::from(self.n);
+        let d = f64::from(self.d);
+        let near = (131_072.0 * n + 1.0 - d) / (2.0 * d);
+        let bits = f64_to_bits_with_nan(near + 6_755_400_514_797_568.0);
+        (bits % 0x8000_0000) as i64 - 0x4000_0000
+    }
+
+    // 65,536·n / d rounded down to a whole number, also where it is negative. Whatever the guess is, it is taken only where it leaves a rest from 0 to
+    // below d, which makes it the floor.
     #[inline(always)]
     fn floor(self) -> i64
-        ensures { result ≡ int_div_euclid self.n (pos self.d) }
+        ensures { result ≡ int_div_euclid (self.n *ℤ pos 65536) (pos self.d) }
     {
-        self.n.div_euclid(i64::from(self.d))
+        let n = i64::from(self.n) * 65536;
+        let d = i64::from(self.d);
+        let guess = self.guess();
+        let rest = n - guess * d;
+        if 0 <= rest && rest < d {
+            guess
+        } else {
+            n.div_euclid(d)
+        }
     }
 
     // The greatest mark not above the ratio.
@@ -32,7 +88,8 @@ impl Ratio {
     pub fn below(self) -> Option<Fixed>
         ensures { result ≡ ratios.below self }
     {
-        if self.n.unsigned_abs() > TOP * u64::from(self.d) {
+        let n = i64::from(self.n) * 65536;
+        if n.abs() > TOP * i64::from(self.d) {
             return None;
         }
         Some(Fixed {
