@@ -37,6 +37,9 @@ fn lift_slopes<K: NumberKind>(base: Base<K>, f: &Shape<K>, p: &Record<K>) -> Rec
     let Some(s) = &p.slopes else {
         return base.flat();
     };
+    if s.is_still() {
+        return base.sloped(*s);
+    }
     let Some(a) = f.g.product(s.a) else {
         return base.flat();
     };

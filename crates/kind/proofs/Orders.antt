@@ -1,5 +1,5 @@
 -- From the rules of a kind: rounding is one function of the value, and keeps the order.
-use Rattle.std.proofs.Common.{◌≡◌, Some, None, Option, refl, ap, subst}
+use Rattle.std.proofs.Common.{◌≡◌, Some, None, Option, refl, sym, ap, subst}
 use Rattle.exact.specs.Fraction.{Frac, ◌≈◌}
 use Rattle.exact.proofs.Fractions.{≈_sym, neg_neg}
 use Rattle.exact.proofs.Order.{≤F_trans, ≤F_of_≈, ≤F_antisym, neg_mono}
@@ -55,3 +55,10 @@ module _ {K : Type 0} (m : Model K) where
     -- a mark lies from −T to T
     pub mark_inside : (a : K) → Inside m (m.value a)
     mark_inside a = (≤F_trans (neg_mono (≤F_trans (≤F_of_≈ (≈_sym (r.opposite_is a))) (r.greatest (m.opposite a)))) (≤F_of_≈ (neg_neg _)), r.greatest a)
+
+    -- what equals a mark is rounded to it
+    pub below_mark : {x : Frac} (a : K) → x ≈ m.value a → m.below x ≡ Some a
+    below_mark {x} a e = sym (is_below x (Some a) (inside_cong (≈_sym e) (mark_inside a), ≤F_of_≈ (≈_sym e), λ k h. ≤F_trans h (≤F_of_≈ e)))
+
+    pub above_mark : {x : Frac} (a : K) → x ≈ m.value a → m.above x ≡ Some a
+    above_mark {x} a e = sym (is_above x (Some a) (inside_cong (≈_sym e) (mark_inside a), ≤F_of_≈ e, λ k h. ≤F_trans (≤F_of_≈ (≈_sym e)) h))

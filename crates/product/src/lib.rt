@@ -4,6 +4,7 @@
 ghost use Rattle.std.specs.Prelude.{◌≡◌};
 ghost use Rattle.slope.specs.Rules.{given, rec};
 ghost use Rattle.exact.specs.Fraction.{◌*F◌};
+ghost use Rattle.product.specs.Scaled.{scaled};
 ghost use Rattle.slope.specs.Rules as rules;
 ghost use Rattle.slope.specs.Truth.{Kept};
 ghost use Rattle.span.specs.Spans as spans;
@@ -12,9 +13,26 @@ use fault::Fault;
 use kind::NumberKind;
 use slope::{Base, Record, Slopes, present};
 
+// x × y part by part, or no slopes
+#[inline(always)]
+fn scaled<K: NumberKind>(base: Base<K>, x: &Slopes<K>, y: &Slopes<K>) -> Record<K>
+    ensures { result ≡ rec base.u base.u0 (scaled K.NumberKind.model x.now y.now) }
+{
+    let Some(a) = x.a.product(y.a) else {
+        return base.flat();
+    };
+    let Some(b) = x.b.product(y.b) else {
+        return base.flat();
+    };
+    let Some(c) = x.c.product(y.c) else {
+        return base.flat();
+    };
+    base.sloped(Slopes { a, b, c })
+}
+
 // A = Au × V0 + U × Av; B = Bu × V0 + U0 × Bv; C = Cu × V0 + U × Cv + Au × Bv
 #[inline(always)]
-fn product_slopes<K: NumberKind>(base: Base<K>, p: &Record<K>, q: &Record<K>) -> Record<K>
+fn whole_rule<K: NumberKind>(base: Base<K>, p: &Record<K>, q: &Record<K>) -> Record<K>
     ensures { result ≡ rec base.u base.u0 (rules.product_slopes K.NumberKind.model p.now q.now) }
 {
     let Some(s) = &p.slopes else {
@@ -57,6 +75,39 @@ fn product_slopes<K: NumberKind>(base: Base<K>, p: &Record<K>, q: &Record<K>) ->
         return base.flat();
     };
     base.sloped(Slopes { a, b, c })
+}
+
+// The rule without the products by [0] of an operand that stands still.
+#[inline(always)]
+fn product_slopes<K: NumberKind>(base: Base<K>, p: &Record<K>, q: &Record<K>) -> Record<K>
+    ensures { result ≡ rec base.u base.u0 (rules.product_slopes K.NumberKind.model p.now q.now) }
+{
+    let Some(s) = &p.slopes else {
+        return base.flat();
+    };
+    let Some(t) = &q.slopes else {
+        return base.flat();
+    };
+    if t.is_still() {
+        if s.is_still() {
+            return base.sloped(*s);
+        }
+        let factors = Slopes {
+            a: q.u0,
+            b: q.u0,
+            c: q.u0,
+        };
+        return scaled(base, s, &factors);
+    }
+    if s.is_still() {
+        let factors = Slopes {
+            a: p.u,
+            b: p.u0,
+            c: p.u,
+        };
+        return scaled(base, &factors, t);
+    }
+    whole_rule(base, p, q)
 }
 
 // The record of a product.

@@ -2,6 +2,7 @@
 #![tactic(auto)]
 
 ghost use Rattle.std.specs.Prelude.{◌≡◌};
+ghost use Rattle.quotient.specs.Still.{over_still};
 ghost use Rattle.slope.specs.Rules.{divided, rec};
 ghost use Rattle.slope.specs.Rules as rules;
 ghost use Rattle.slope.specs.Truth.{Divided};
@@ -12,7 +13,7 @@ use kind::NumberKind;
 use slope::{Base, Record, Slopes, present};
 
 // W0 = U0 / V0; A = (Au − W0 × Av) / V; B = (Bu − W0 × Bv) / V0; C = (Cu − W0 × Cv − B × Av) / V
-fn quotient_slopes<K: NumberKind>(base: Base<K>, p: &Record<K>, q: &Record<K>) -> Record<K>
+fn whole_rule<K: NumberKind>(base: Base<K>, p: &Record<K>, q: &Record<K>) -> Record<K>
     ensures { result ≡ rec base.u base.u0 (rules.quotient_slopes K.NumberKind.model p.now q.now base.u0) }
 {
     let Some(s) = &p.slopes else {
@@ -55,6 +56,39 @@ fn quotient_slopes<K: NumberKind>(base: Base<K>, p: &Record<K>, q: &Record<K>) -
         return base.flat();
     };
     base.sloped(Slopes { a, b, c })
+}
+
+// A = Au / V; B = Bu / V0; C = Cu / V
+fn over_still<K: NumberKind>(base: Base<K>, s: &Slopes<K>, q: &Record<K>) -> Record<K>
+    ensures { result ≡ rec base.u base.u0 (over_still K.NumberKind.model s.now q.now) }
+{
+    let Some(a) = s.a.quotient(q.u) else {
+        return base.flat();
+    };
+    let Some(b) = s.b.quotient(q.u0) else {
+        return base.flat();
+    };
+    let Some(c) = s.c.quotient(q.u) else {
+        return base.flat();
+    };
+    base.sloped(Slopes { a, b, c })
+}
+
+// The rule without the products by [0] of a divisor that stands still.
+fn quotient_slopes<K: NumberKind>(base: Base<K>, p: &Record<K>, q: &Record<K>) -> Record<K>
+    ensures { result ≡ rec base.u base.u0 (rules.quotient_slopes K.NumberKind.model p.now q.now base.u0) }
+{
+    let Some(s) = &p.slopes else {
+        return base.flat();
+    };
+    let Some(t) = &q.slopes else {
+        return base.flat();
+    };
+    if t.is_still() {
+        over_still(base, s, q)
+    } else {
+        whole_rule(base, p, q)
+    }
 }
 
 // The record of a quotient. Refused first where the divisor's span over the box holds 0.

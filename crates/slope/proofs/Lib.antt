@@ -1,3 +1,4 @@
 pub mod Chains
 pub mod PartsTrue
 pub mod ChoicesTrue
+pub mod Zeros

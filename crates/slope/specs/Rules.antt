@@ -1,6 +1,6 @@
 -- The rule of each operation. A step that is absent leaves a slope rule with no slopes; the span U that is absent leaves no
 -- record.
-use Rattle.std.specs.Prelude.{ℕ, cond, Some, None, Option, Result}
+use Rattle.std.specs.Prelude.{ℕ, Bool, cond, ◌&&◌, Some, None, Option, Result}
 use Rattle.exact.specs.Optional.{◌>>=◌}
 use Rattle.fault.specs.Refusals.{found, refused}
 use Rattle.fault.specs.declared.fault.Cause.TheVariants.{Absent, Divisor}
@@ -38,6 +38,10 @@ module _ {K : Type 0} (m : Model K) where
 
   abbrev pub still : Span K → Record K
   still x = rec x x (three (spans.zero_span m) (spans.zero_span m) (spans.zero_span m))
+
+  -- all three slopes are [0]
+  abbrev pub is_still : Slopes K → Bool
+  is_still s = (spans.is_zero m s.a && spans.is_zero m s.b) && spans.is_zero m s.c
 
   -- ---- sum, difference and negative, part by part
   abbrev pub negated_slopes : Slopes K → Slopes K

@@ -48,6 +48,12 @@ fn sum_slopes<K: NumberKind>(base: Base<K>, p: &Record<K>, q: &Record<K>) -> Rec
     let Some(t) = &q.slopes else {
         return base.flat();
     };
+    if t.is_still() {
+        return base.sloped(*s);
+    }
+    if s.is_still() {
+        return base.sloped(*t);
+    }
     let Some(a) = s.a.sum(t.a) else {
         return base.flat();
     };

@@ -1,6 +1,7 @@
 // Records of lines.
 ghost use Rattle.std.specs.Prelude.{◌≡◌, None, Some};
 ghost use Rattle.slope.specs.Rules.{given, rec};
+ghost use Rattle.slope.specs.Rules as rules;
 
 use fault::{Cause, Fault};
 use kind::NumberKind;
@@ -35,6 +36,17 @@ pub struct Shape<K: NumberKind> {
 pub struct Base<K: NumberKind> {
     pub u: Span<K>,
     pub u0: Span<K>,
+}
+
+impl<K: NumberKind> Slopes<K> {
+    // Whether all three are [0], as of a constant or a channel that is not swept. Most lines have such an operand, and rules
+    // that leave out what it adds are faster.
+    #[inline(always)]
+    pub fn is_still(&self) -> bool
+        ensures { result ≡ rules.is_still K.NumberKind.model self.now }
+    {
+        self.a.is_zero() && self.b.is_zero() && self.c.is_zero()
+    }
 }
 
 impl<K: NumberKind> Base<K> {

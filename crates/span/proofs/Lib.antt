@@ -8,3 +8,4 @@ pub mod Enclosing
 pub mod Nested
 pub mod Lawful
 pub mod Agreed
+pub mod Zero

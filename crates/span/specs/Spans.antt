@@ -41,6 +41,13 @@ module _ {K : Type 0} (m : Model K) where
   abbrev pub holds_zero : Span K → Bool
   holds_zero s = to_zero s.lower && from_zero s.upper
 
+  abbrev pub is_nought : K → Bool
+  is_nought a = to_zero a && from_zero a
+
+  -- the span is [0]
+  abbrev pub is_zero : Span K → Bool
+  is_zero s = is_nought s.lower && is_nought s.upper
+
   -- s's lower end is not below t's upper end
   abbrev pub clears : Span K → Span K → Bool
   clears s t = at_most m t.upper s.lower

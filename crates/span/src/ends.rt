@@ -30,6 +30,14 @@ pub fn to_zero<K: NumberKind>(a: K) -> bool
     a.at_most(K::zero())
 }
 
+// (A kind has no test for 0 alone.)
+#[inline(always)]
+fn is_nought<K: NumberKind>(a: K) -> bool
+    ensures { result ≡ spans.is_nought K.NumberKind.model a }
+{
+    to_zero(a) && from_zero(a)
+}
+
 impl<K: NumberKind> Span<K> {
     // [v]
     pub fn point(v: K) -> Span<K>
@@ -43,6 +51,14 @@ impl<K: NumberKind> Span<K> {
         ensures { result ≡ spans.holds_zero K.NumberKind.model self }
     {
         to_zero(self.lower) && from_zero(self.upper)
+    }
+
+    // Whether the span is [0].
+    #[inline(always)]
+    pub fn is_zero(self) -> bool
+        ensures { result ≡ spans.is_zero K.NumberKind.model self }
+    {
+        is_nought(self.lower) && is_nought(self.upper)
     }
 
     // Whether the lower end is not below the other's upper end.

@@ -1,0 +1,8 @@
+use Rattle.std.proofs.Common.{ap, sym, ◌∙◌}
+use Rattle.curve.proofs.Zeros.{lift_still}
+use Rattle.curve.proofs.lifting.lift_slopes.Goals as goal
+use Rattle.slope.specs.Rules.{rec}
+
+pub returns-then-is_still : goal.returns-then-is_still
+returns-then-is_still g c = c.sloped.ensures ∙ ap (rec c.args.base.u c.args.base.u0)
+    (sym (lift_still g.K.NumberKind.model g.met.K.NumberKind.rules c.args.f.now _ _ c.in-Some.is (sym c.is_still.ensures ∙ c.if-is_still.true)))

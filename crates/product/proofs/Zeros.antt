@@ -1,0 +1,19 @@
+-- What an operand that stands still leaves of the product's rule.
+use Rattle.std.proofs.Common.{◌≡◌, true, Some, ◌∙◌}
+use Rattle.kind.specs.Model.{Model, Rules}
+use Rattle.product.specs.Scaled.{scaled}
+use Rattle.slope.proofs.Zeros.{is_still_is}
+use Rattle.slope.specs.Rules.{is_still, product_slopes}
+use Rattle.slope.specs.declared.record.Record.{Record}
+use Rattle.slope.specs.declared.record.Slopes.{Slopes}
+use Rattle.span.proofs.Zero.{product_zero, sum_zero, zero_product, zero_sum}
+
+module _ {K : Type 0} (m : Model K) (rules : Rules m) (p q : Record K) (s t : Slopes K) (es : p.slopes ≡ Some s) (et : q.slopes ≡ Some t) where
+  pub by_still : is_still m t ≡ true → product_slopes m p q ≡ scaled m s (record { a = q.u0; b = q.u0; c = q.u0 })
+  by_still h = rw (es, et, is_still_is m rules t h) (simp (product_zero m rules, sum_zero m rules))
+
+  pub of_still : is_still m s ≡ true → product_slopes m p q ≡ scaled m (record { a = p.u; b = p.u0; c = p.u }) t
+  of_still h = rw (es, et, is_still_is m rules s h) (simp (zero_product m rules, zero_sum m rules, sum_zero m rules))
+
+  pub both_still : is_still m s ≡ true → is_still m t ≡ true → product_slopes m p q ≡ Some s
+  both_still h h' = by_still h' ∙ rw (is_still_is m rules s h) (simp (zero_product m rules))
