@@ -1,4 +1,4 @@
-use Rattle.std.proofs.Common.{◌≡◌, pos, ap₂, ◌∙◌, arith, w64, to_z, of_z}
+use Rattle.std.proofs.Common.{◌≡◌, ℤ, pos, ap, ◌∙◌, arith, w64, to_z, of_z}
 use borrow.Author.Differences.{ints}
 use Rattle.std.specs.Int.{int_div_euclid}
 use Rattle.sliding.proofs.Rounds.{ratio_beyond, ratio_within}
@@ -13,5 +13,4 @@ pub returns : goal.returns
 returns c =
     let l = rw c.from-3.ensures at c.if-from.false in let e = c.unsigned_abs.ensures.value in let b = c.args.self.held.bound in
     let x : to_z w64 (of_z w64 c.args.self.n) ≡ c.args.self.n = omega (arith, ints) in
-    let y : to_z w64 (of_z w64 c.from-4.result) ≡ pos c.args.self.d = (let f = c.from-4.ensures in omega (arith, ints)) in
-    c.below.ensures ∙ ratio_within c.args.self.n c.args.self.d c.args.self.t _ c.args.self.held c.from-2.ensures (omega (arith, ints)) _ (c.div_euclid.ensures ∙ ap₂ int_div_euclid x y)
+    c.below.ensures ∙ ratio_within c.args.self.n c.args.self.d c.args.self.t _ c.args.self.held c.from-2.ensures (omega (arith, ints)) _ (c.floor.ensures ∙ ap (λ (z : ℤ). int_div_euclid z (pos c.args.self.d)) x)
