@@ -2,3 +2,4 @@ pub mod Scales
 pub mod Rounds
 pub mod Ops
 pub mod Stored
+pub mod Guesses

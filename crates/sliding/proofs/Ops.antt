@@ -1,115 +1,85 @@
--- The operations of the sliding kind as ratios in 64 bits.
-use Rattle.std.proofs.Common.{◌≡◌, ℕ, zero, suc, ◌+◌, ◌-◌, ◌*◌, ◌%◌, ◌^◌, ◌<◌, ◌≤◌, [], ◌∷◌, ℤ, pos, negsuc, ◌-ℤ◌, ◌*ℤ◌, neg_ℤ, nat_abs, ◌≤ℤ◌, sym, refl, ap, ◌∙◌, subst, ap₂, mul_comm, mul-le-mul, mul-pos, arith, lit<, pow_pos, pow-add, shl_exact, w32, w64, SFits, to_z, of_z}
+-- The operations of the sliding kind.
+use Rattle.std.proofs.Common.{◌≡◌, ℕ, zero, suc, ◌+◌, ◌-◌, ◌*◌, ◌%◌, ◌^◌, ◌<◌, ◌≤◌, [], ◌∷◌, ℤ, pos, ◌+ℤ◌, ◌-ℤ◌, ◌*ℤ◌, neg_ℤ, nat_abs, ◌<ℤ◌, Some, None, Option, sym, refl, ap, ◌∙◌, subst, ap₂, subst₂, shl_exact, mul-pos, arith, lit<, pow_pos, pow-add, w32, w64, SFits, to_z, of_z}
 use borrow.Author.Differences.{ints}
-use lib.Signed.{le_z, mag, shr_z}
-use Rattle.std.proofs.lemmas.Int.{to_z-of_z}
-use Rattle.std.specs.Int.{int_div_euclid}
+use lib.Signed.{le_z, shr_z}
+use Rattle.std.proofs.lemmas.Int.{to_z-of_z, unsigned_abs-mul}
+use Rattle.std.specs.Int.{int_div_euclid, w128}
 use Rattle.exact.proofs.Floors.{floor_between, floor_low, floor_next}
 use Rattle.exact.proofs.Integers.{leZ_times, ring}
-use Rattle.exact.proofs.Ring.{◌⊗◌, num, x0, x1, x2, x3, x4}
+use Rattle.exact.proofs.Ring.{◌⊗◌, num, x0, x1, x2, x3, ⊝◌}
+use Rattle.exact.specs.Optional.{◌>>=◌}
 use Rattle.exact.specs.Floor.{ceiling, floor}
-use Rattle.exact.specs.Fraction.{◌≈◌, le_F, neg_F, ratio}
-use Rattle.kind.proofs.GridOps.{product_above_is, product_below_is, quotient_above_neg, quotient_above_pos, quotient_below_neg, quotient_below_pos}
-use Rattle.kind.proofs.Orders.{above_cong, below_cong}
-use Rattle.kind.proofs.Plain.{plain32, plain_product, plain_wide, product_bound}
-use Rattle.kind.specs.Grid.{grid_above, grid_below, units_over}
-use Rattle.kind.specs.Model.{count, product_above, product_below, quotient_above, quotient_below}
-use Rattle.sliding.proofs.Rounds.{negate_shifted}
-use Rattle.sliding.specs.Rules.{sliding_lawful, sliding_rules}
-use Rattle.sliding.proofs.Scales.{plain_shr}
-use Rattle.sliding.specs.Slides.{shifted_add, shifted_bound}
+use Rattle.exact.specs.Fraction.{Frac, ◌*F◌, ◌≈◌, le_F, neg_F, ratio}
+use Rattle.kind.proofs.GridOps.{above, below, product_below_is, quotient_below_neg, quotient_below_pos, sum_above_is, sum_below_is}
+use Rattle.kind.specs.Grid.{grid_above, grid_below, grid_value, mirrored, units_over}
+use Rattle.kind.specs.Model.{count, count_above, count_below, product_below, quotient_below, sum_above, sum_below}
+use Rattle.kind.proofs.Plain.{product_bound}
+use Rattle.sliding.proofs.Rounds.{by_floor, floor_small, ratio_none}
+use Rattle.sliding.proofs.Scales.{plain_part, plain_shr}
+use Rattle.sliding.proofs.Stored.{of_stored}
 use Rattle.sliding.specs.Cut.{Stands, shifted}
 use Rattle.sliding.specs.Form.{Normal}
-use Rattle.sliding.specs.Grid.{sliding_grid, sliding_model}
+use Rattle.sliding.specs.Slides.{shifted_add, shifted_bound}
+use Rattle.sliding.specs.Grid.{sliding_grid, sliding_model, stored_as}
+use Rattle.sliding.specs.Rules.{sliding_lawful}
+use Rattle.sliding.specs.Whole as whole
 use Rattle.sliding.specs.declared.mark.Sliding.{Sliding}
 
+-- ---- sums and counts
+module _ (z : ℤ) (a b : Sliding) (e : z ≡ a.units +ℤ b.units) where
+  pub is_sum_below : whole.below z ≡ sum_below sliding_model a b
+  is_sum_below = ap (λ (y : ℤ). whole.below y) e ∙ sum_below_is sliding_grid sliding_lawful a b (lit< tt)
+
+  pub is_sum_above : whole.above z ≡ sum_above sliding_model a b
+  is_sum_above = ap (λ (y : ℤ). whole.above y) e ∙ sum_above_is sliding_grid sliding_lawful a b (lit< tt)
+
+module _ (z n : ℤ) (e : z ≡ n *ℤ pos 256) where
+  at_count : units_over sliding_grid z 1 (lit< tt) ≈ count n
+  unfolding units_over
+  at_count = record { cross = omega (arith, ints) }
+
+  pub is_count_below : whole.below z ≡ count_below sliding_model n
+  is_count_below = below sliding_grid sliding_lawful _ _ at_count
+
+  pub is_count_above : whole.above z ≡ count_above sliding_model n
+  is_count_above = above sliding_grid sliding_lawful _ _ at_count
+
+-- ---- products
+wide : (z v : ℤ) → nat_abs v < 2 ^ 63 → z ≡ to_z w64 (of_z w64 v) → to_z w128 (of_z w128 z) ≡ v
+wide z v b e = omega (arith, ints)
+
+module _ (a b : Sliding) (x y : ℤ) (e : x ≡ to_z w64 (of_z w64 a.units)) (f : y ≡ to_z w64 (of_z w64 b.units)) where
+  abbrev n : ℤ
+  n = to_z w128 (of_z w128 x) *ℤ to_z w128 (of_z w128 y)
+
+  exact : n ≡ a.units *ℤ b.units
+  exact = let p = a.on_grid.0 in let q = b.on_grid.0 in ap₂ ◌*ℤ◌ (wide x a.units (omega arith) e) (wide y b.units (omega arith) f)
+
+  fits : SFits w128 n
+  fits = let k = product_bound a.units b.units 72057589742960640 72057589742960640 a.on_grid.0 b.on_grid.0 in rw exact (omega (arith, ints))
+
+  plain : to_z w128 (of_z w128 n) ≡ a.units *ℤ b.units
+  plain = to_z-of_z w128 n fits ∙ exact
+
+  pub no_product : 72057589742960640 * 16777216 < nat_abs (to_z w128 (of_z w128 n)) → None ≡ product_below sliding_model a b
+  no_product h = ratio_none (a.units *ℤ b.units) 16777216 (lit< tt) (rw plain at h) ∙ product_below_is sliding_grid sliding_lawful a b
+
+  pub is_product_below : nat_abs (to_z w128 (of_z w128 n)) ≤ 72057589742960640 * 16777216
+      → whole.below (to_z w64 (of_z w64 (to_z w128 (of_z w128 (shr_z (to_z w128 (of_z w128 n)) 16777216))))) ≡ product_below sliding_model a b
+  is_product_below h =
+      let k = rw plain at h in
+      let c = floor_small (a.units *ℤ b.units) 16777216 (lit< tt) 72057589742960640 k in
+      let j : to_z w128 (of_z w128 (shr_z (to_z w128 (of_z w128 n)) 16777216)) ≡ int_div_euclid (a.units *ℤ b.units) (pos 16777216) = plain_shr w128 n 24 fits ∙ ap (λ (z : ℤ). int_div_euclid z (pos 16777216)) exact in
+      ap (λ (z : ℤ). whole.below (to_z w64 (of_z w64 z))) j
+      ∙ ap (λ (z : ℤ). whole.below z) (to_z-of_z w64 (int_div_euclid (a.units *ℤ b.units) (pos 16777216)) (omega (arith, ints)))
+      ∙ by_floor (a.units *ℤ b.units) 16777216 (lit< tt) k
+      ∙ product_below_is sliding_grid sliding_lawful a b
+
+-- ---- quotients
 -- a power of two in ratio
 ratio_of : (x y z : ℕ) → x ≡ y + z → pos (2 ^ x) ≡ pos (2 ^ y) *ℤ pos (2 ^ z)
 ratio_of x y z e = ap (λ (n : ℕ). pos (2 ^ n)) e ∙ ap pos (pow-add 2 y z)
 
--- equal cross products are equal ratios
-ratio_same : (n n' : ℤ) (d d' : ℕ) (h : 0 < d) (h' : 0 < d') → n *ℤ pos d' ≡ n' *ℤ pos d → units_over sliding_grid n d h ≈ units_over sliding_grid n' d' h'
-unfolding units_over
-ratio_same n n' d d' h h' e = record {
-  cross =
-      ring (n ∷ pos d' ∷ []) (x0 ⊗ (x1 ⊗ num (pos 16777216))) (x0 ⊗ x1 ⊗ num (pos 16777216)) refl
-      ∙ ap (λ (z : ℤ). z *ℤ pos 16777216) e
-      ∙ ring (n' ∷ pos d ∷ []) (x0 ⊗ x1 ⊗ num (pos 16777216)) (x0 ⊗ (x1 ⊗ num (pos 16777216))) refl;
-}
-
-pub same_below : (n n' : ℤ) (d d' : ℕ) (h : 0 < d) (h' : 0 < d') → n *ℤ pos d' ≡ n' *ℤ pos d → grid_below sliding_grid (units_over sliding_grid n d h) ≡ grid_below sliding_grid (units_over sliding_grid n' d' h')
-same_below n n' d d' h h' e = below_cong (sliding_model) sliding_rules (ratio_same n n' d d' h h' e)
-
-pub same_above : (n n' : ℤ) (d d' : ℕ) (h : 0 < d) (h' : 0 < d') → n *ℤ pos d' ≡ n' *ℤ pos d → grid_above sliding_grid (units_over sliding_grid n d h) ≡ grid_above sliding_grid (units_over sliding_grid n' d' h')
-same_above n n' d d' h h' e = above_cong (sliding_model) sliding_rules (ratio_same n n' d d' h h' e)
-
--- ---- products
-pub product_fine : (a b n : ℤ) (s r d : ℕ) → nat_abs a ≤ 16777215 → nat_abs b ≤ 16777215 → n ≡ a *ℤ b → s + r < 24 → d ≡ 2 ^ (24 - (s + r)) → Stands (shifted a s *ℤ shifted b r) 16777216 n d 0
-product_fine a b n s r d p q e h f = let w = product_bound a b 16777215 16777215 p q in let o = pow_pos (24 - (s + r)) in record {
-  held = record { positive = omega arith; bound = subst (λ (z : ℤ). nat_abs z ≤ 2 ^ 62) (sym e) (omega arith); wide = λ z. omega arith; short = omega arith };
-  cross = ap (λ (z : ℤ). shifted z 0 *ℤ pos 16777216) e
-      ∙ ap (λ (z : ℤ). ((a *ℤ b) *ℤ pos 1) *ℤ z) (ratio_of 24 (s + r) (24 - (s + r)) (omega arith) ∙ ap (λ (z : ℤ). z *ℤ pos (2 ^ (24 - (s + r)))) (ratio_of (s + r) s r refl))
-      ∙ ring (a ∷ b ∷ pos (2 ^ s) ∷ pos (2 ^ r) ∷ pos (2 ^ (24 - (s + r))) ∷ []) (x0 ⊗ x1 ⊗ num (pos 1) ⊗ (x2 ⊗ x3 ⊗ x4)) ((x0 ⊗ x2) ⊗ (x1 ⊗ x3) ⊗ x4) refl
-      ∙ ap (λ (k : ℕ). (shifted a s *ℤ shifted b r) *ℤ pos k) (sym f);
-}
-
-pub product_nought : (a b n : ℤ) (s r : ℕ) → n ≡ a *ℤ b → n ≡ pos 0 → Stands (shifted a s *ℤ shifted b r) 16777216 n 1 0
-product_nought a b n s r e f = record {
-  held = record { positive = omega arith; bound = subst (λ (z : ℤ). nat_abs z ≤ 2 ^ 62) (sym f) (omega arith); wide = λ z. omega arith; short = omega arith };
-  cross = ap (λ (z : ℤ). shifted z 0 *ℤ pos 16777216) f
-      ∙ ring (pos (2 ^ s) ∷ pos (2 ^ r) ∷ []) (num (pos 0)) (num (pos 0) ⊗ (x0 ⊗ x1) ⊗ num (pos 1)) refl
-      ∙ ap (λ (z : ℤ). (z *ℤ (pos (2 ^ s) *ℤ pos (2 ^ r))) *ℤ pos 1) (sym f ∙ e)
-      ∙ ring (a ∷ b ∷ pos (2 ^ s) ∷ pos (2 ^ r) ∷ []) (x0 ⊗ x1 ⊗ (x2 ⊗ x3) ⊗ num (pos 1)) ((x0 ⊗ x2) ⊗ (x1 ⊗ x3) ⊗ num (pos 1)) refl;
-}
-
--- of two marks whose product is not 0 one has 24 bits
-abs_times : (a b : ℤ) → nat_abs (a *ℤ b) ≡ nat_abs a * nat_abs b
-abs_times (pos a) (pos b) = refl
-abs_times (pos a) (negsuc b) = omega (arith, ints)
-abs_times (negsuc a) (pos b) = omega (arith, ints)
-abs_times (negsuc a) (negsuc b) = refl
-
-wide_left : (x y : ℕ) → 8388608 ≤ x → 0 < x * y → 8388608 ≤ x * y
-wide_left x zero p q = omega arith
-wide_left x (suc y) p q = let o : 1 ≤ suc y = omega arith in omega (arith, mul-le-mul p o)
-
-pub product_wide : (a b n : ℤ) (s r : ℕ) → Normal a s → Normal b r → n ≡ a *ℤ b → (n ≡ pos 0 → ⊥) → 24 ≤ s + r → Stands (shifted a s *ℤ shifted b r) 16777216 n 1 (s + r - 24)
-product_wide a b n s r p q e f h = let w = product_bound a b 16777215 16777215 p.0 q.0 in record {
-  held = record { positive = omega arith; bound = subst (λ (z : ℤ). nat_abs z ≤ 2 ^ 62) (sym e) (omega arith); wide = λ z. subst (λ (y : ℤ). 8388608 * 1 ≤ nat_abs y) (sym e) (wide s r p q h); short = omega arith };
-  cross = ap (λ (z : ℤ). shifted z (s + r - 24) *ℤ pos 16777216) e
-      ∙ ring (a ∷ b ∷ pos (2 ^ (s + r - 24)) ∷ []) (x0 ⊗ x1 ⊗ x2 ⊗ num (pos 16777216)) (x0 ⊗ x1 ⊗ (x2 ⊗ num (pos 16777216)) ⊗ num (pos 1)) refl
-      ∙ ap (λ (z : ℤ). ((a *ℤ b) *ℤ z) *ℤ pos 1) (sym (ratio_of (s + r) (s + r - 24) 24 (omega arith)) ∙ ratio_of (s + r) s r refl)
-      ∙ ring (a ∷ b ∷ pos (2 ^ s) ∷ pos (2 ^ r) ∷ []) (x0 ⊗ x1 ⊗ (x2 ⊗ x3) ⊗ num (pos 1)) ((x0 ⊗ x2) ⊗ (x1 ⊗ x3) ⊗ num (pos 1)) refl;
-}
-  where
-    some : 0 < nat_abs a * nat_abs b
-    some = let t = abs_times a b in let g : nat_abs n ≡ nat_abs a * nat_abs b = ap nat_abs e ∙ t in positive n f (nat_abs a * nat_abs b) g
-      where
-        positive : (z : ℤ) → (z ≡ pos 0 → ⊥) → (k : ℕ) → nat_abs z ≡ k → 0 < k
-        positive (pos zero) f k g = absurd (f refl)
-        positive (pos (suc z)) f k g = omega arith
-        positive (negsuc z) f k g = omega arith
-
-    wide : (s r : ℕ) → Normal a s → Normal b r → 24 ≤ s + r → 8388608 * 1 ≤ nat_abs (a *ℤ b)
-    wide zero r p q h = let u = wide_left (nat_abs b) (nat_abs a) (q.2 (omega arith)) (omega (arith, some, mul_comm (nat_abs a) (nat_abs b))) in omega (arith, abs_times a b, mul_comm (nat_abs a) (nat_abs b))
-    wide (suc s) r p q h = let u = wide_left (nat_abs a) (nat_abs b) (p.2 (omega arith)) some in omega (arith, abs_times a b)
-
--- what the code computes
-module _ (x y a b : ℤ) (e : x ≡ to_z w32 (of_z w32 a)) (f : y ≡ to_z w32 (of_z w32 b)) (p : nat_abs a ≤ 16777215) (q : nat_abs b ≤ 16777215) where
-  pub product_plain : to_z w64 (of_z w64 (to_z w64 (of_z w64 x) *ℤ to_z w64 (of_z w64 y))) ≡ a *ℤ b
-  product_plain = ap₂ (λ (v : ℤ) (w : ℤ). to_z w64 (of_z w64 (to_z w64 (of_z w64 v) *ℤ to_z w64 (of_z w64 w)))) e f ∙ plain_product a b (omega arith) (omega arith)
-
-  pub product_is_nought : to_z w64 (of_z w64 (to_z w64 (of_z w64 x) *ℤ to_z w64 (of_z w64 y))) ≡ pos 0 → of_z w64 (to_z w64 (of_z w64 x) *ℤ to_z w64 (of_z w64 y)) ≡ 0
-  product_is_nought z = ap (of_z w64) (ap₂ ◌*ℤ◌ (ap (λ (v : ℤ). to_z w64 (of_z w64 v)) e ∙ plain_wide a (omega arith)) (ap (λ (v : ℤ). to_z w64 (of_z w64 v)) f ∙ plain_wide b (omega arith)) ∙ sym product_plain ∙ z)
-
-module _ (a b : Sliding) (n : ℤ) (d t : ℕ) (h : 0 < d) (s : Stands (shifted a.mantissa a.scale *ℤ shifted b.mantissa b.scale) 16777216 n d t) where
-  pub times_below : grid_below sliding_grid (units_over sliding_grid (shifted n t) d h) ≡ product_below sliding_model a b
-  times_below = same_below (shifted n t) _ d 16777216 h (lit< tt) s.cross ∙ product_below_is sliding_grid sliding_lawful a b
-
-  pub times_above : grid_above sliding_grid (units_over sliding_grid (shifted n t) d h) ≡ product_above sliding_model a b
-  times_above = same_above (shifted n t) _ d 16777216 h (lit< tt) s.cross ∙ product_above_is sliding_grid sliding_lawful a b
-
--- ---- quotients
 pub quotient_coarse : (m n : ℤ) (a by s d : ℕ) → n ≡ m → nat_abs m ≤ 16777215 → 0 < by → a + 24 < s → d ≡ by * 2 ^ (s - a - 24) → Stands (shifted m a *ℤ pos 16777216) (by * 2 ^ s) n d 0
 quotient_coarse m n a by s d g p q h e = let o = pow_pos (s - a - 24) in let w = mul-pos q o in record {
   held = record { positive = omega arith; bound = subst (λ (z : ℤ). nat_abs z ≤ 2 ^ 62) (sym g) (omega arith); wide = λ z. omega arith; short = omega arith };
@@ -127,17 +97,86 @@ quotient_cross m a by s j e =
 
 pub quotient_lifted : (m n : ℤ) (a by s d t u : ℕ) → n ≡ shifted m u → u + t + s ≡ a + 24 → d ≡ by → Normal m a → 0 < by → by ≤ 16777215 → s ≤ 32 → s ≤ a + 24 → t ≡ a + 24 - s - 38 → Stands (shifted m a *ℤ pos 16777216) (by * 2 ^ s) n d t
 quotient_lifted m n a by s d t u g v l p q r w h k = let b = shifted_bound m u 38 16777215 p.0 (omega arith) in subst (λ (y : ℕ). Stands (shifted m a *ℤ pos 16777216) (by * 2 ^ s) n y t) (sym l) (record {
-  held = record { positive = q; bound = subst (λ (z : ℤ). nat_abs z ≤ 2 ^ 62) (sym g) (omega arith); wide = wide; short = (let e = p.1 in omega arith) };
+  held = record { positive = q; bound = subst (λ (z : ℤ). nat_abs z ≤ 2 ^ 62) (sym g) (omega arith); wide = large; short = (let e = p.1 in omega arith) };
   cross = ap (λ (z : ℤ). shifted z t *ℤ pos (by * 2 ^ s)) g
       ∙ ap (λ (z : ℤ). z *ℤ pos (by * 2 ^ s)) (sym (shifted_add m u t))
       ∙ quotient_cross m a by s (u + t) v;
 })
   where
-    wide : 0 < t → 8388608 * by ≤ nat_abs n
-    wide z = let e : u ≡ 38 = omega arith in let f : n ≡ shifted m 38 = g ∙ ap (shifted m) e in
-        let c = p.2 (omega arith) in let b = abs_times m (pos (2 ^ 38)) in subst (λ (y : ℤ). 8388608 * by ≤ nat_abs y) (sym f) (omega arith)
+    large : 0 < t → 16777216 * by ≤ nat_abs n
+    large z = let e : u ≡ 38 = omega arith in let f : n ≡ shifted m 38 = g ∙ ap (shifted m) e in
+        let c = p.2 (omega arith) in let b = unsigned_abs-mul m (pos (2 ^ 38)) in subst (λ (y : ℤ). 16777216 * by ≤ nat_abs y) (sym f) (omega arith)
 
--- ---- the rest
+by_shift : (a k : ℕ) → a ≤ 16777215 → k ≤ 8 → (a * 2 ^ k) % 4294967296 ≡ a * 2 ^ k
+by_shift a k p h = shl_exact {a = a} 24 k 32 (omega arith) (omega arith)
+
+some_factor : (x y : ℕ) → 0 < x * y → 0 < x
+some_factor zero y h = absurd (omega arith)
+some_factor (suc x) y h = omega arith
+
+-- what the code computes of the stored forms of a and of a positive b
+module _ (a b : Sliding) (m by : ℤ) (s r : ℕ) (p : stored_as m s ≡ Some a) (q : stored_as by r ≡ Some b) (some : pos 0 <ℤ b.units)
+    (x : ℤ) (d : ℕ) (e : x ≡ to_z w32 (of_z w32 m)) (f : d ≡ nat_abs (to_z w32 (of_z w32 by))) where
+  m_normal : Normal m s
+  m_normal = (of_stored m s a p).0
+
+  by_normal : Normal by r
+  by_normal = (of_stored by r b q).0
+
+  x_is : x ≡ m
+  x_is = let n = m_normal.0 in omega (arith, ints)
+
+  d_is : d ≡ nat_abs by
+  d_is = let n = by_normal.0 in omega (arith, ints)
+
+  size : nat_abs by * 2 ^ r ≡ nat_abs b.units
+  size = sym (unsigned_abs-mul by (pos (2 ^ r))) ∙ ap nat_abs (sym (of_stored by r b q).1)
+
+  by_some : 0 < nat_abs by
+  by_some = some_factor (nat_abs by) (2 ^ r) (let g = size in omega (arith, ints))
+
+  at_marks : (n : ℤ) (c t : ℕ) → Stands (shifted m s *ℤ pos 16777216) (nat_abs by * 2 ^ r) n c t → Stands (a.units *ℤ pos 16777216) (nat_abs b.units) n c t
+  at_marks n c t v = subst₂ (λ (y : ℤ) (z : ℕ). Stands (y *ℤ pos 16777216) z n c t) (sym (of_stored m s a p).1) size v
+
+  pub over_coarse : s + 24 < r → Stands (a.units *ℤ pos 16777216) (nat_abs b.units) (to_z w64 (of_z w64 x)) ((d * 2 ^ (r - s - 24)) % 4294967296) 0
+  over_coarse l =
+      let g = m_normal in let h = by_normal in let i = d_is in
+      at_marks _ _ 0 (quotient_coarse m _ s (nat_abs by) r _ (let j = x_is in let k = g.0 in omega (arith, ints)) g.0 by_some l
+      (by_shift d (r - s - 24) (let k = h.0 in omega arith) (let k = h.1 in omega arith) ∙ ap (λ (y : ℕ). y * 2 ^ (r - s - 24)) d_is))
+
+  pub over_lifted : (t : ℕ) → r ≤ s + 24 → t ≡ s + 24 - r - 38 → Stands (a.units *ℤ pos 16777216) (nat_abs b.units) (to_z w64 ((of_z w64 x * 2 ^ (s + 24 - r - t)) % 2 ^ 64)) d t
+  over_lifted t l j =
+      let g = m_normal in let h = by_normal in
+      at_marks _ d t (quotient_lifted m _ s (nat_abs by) r d t (s + 24 - r - t) (plain_part x m (s + 24 - r - t) e g.0 (omega arith)) (omega arith) d_is g by_some h.0 h.1 l j)
+
+-- equal cross products are equal ratios
+same_below : (n n' : ℤ) (d d' : ℕ) (h : 0 < d) (h' : 0 < d') → n *ℤ pos d' ≡ n' *ℤ pos d → grid_below sliding_grid (units_over sliding_grid n d h) ≡ grid_below sliding_grid (units_over sliding_grid n' d' h')
+unfolding units_over
+same_below n n' d d' h h' e = below sliding_grid sliding_lawful _ _ (record {
+  cross =
+      ring (n ∷ pos d' ∷ []) (x0 ⊗ (x1 ⊗ num (pos 16777216))) (x0 ⊗ x1 ⊗ num (pos 16777216)) refl
+      ∙ ap (λ (z : ℤ). z *ℤ pos 16777216) e
+      ∙ ring (n' ∷ pos d ∷ []) (x0 ⊗ x1 ⊗ num (pos 16777216)) (x0 ⊗ (x1 ⊗ num (pos 16777216))) refl;
+})
+
+module _ (a b : Sliding) (n : ℤ) (by d t : ℕ) (h : 0 < d) (some : 0 < by) where
+  pub div_pos : b.units ≡ pos by → Stands (a.units *ℤ pos 16777216) by n d t → grid_below sliding_grid (units_over sliding_grid (shifted n t) d h) ≡ quotient_below sliding_model a b
+  div_pos f s = same_below (shifted n t) _ d by h some s.cross ∙ quotient_below_pos sliding_grid sliding_lawful a b by some f
+
+  pub div_neg : b.units ≡ neg_ℤ (pos by) → Stands (neg_ℤ a.units *ℤ pos 16777216) by n d t → grid_below sliding_grid (units_over sliding_grid (shifted n t) d h) ≡ quotient_below sliding_model a b
+  div_neg f s = same_below (shifted n t) _ d by h some s.cross ∙ quotient_below_neg sliding_grid sliding_lawful a b by some f
+
+-- ---- the negative of what −a times x rounds to
+pub mirror_times : (a : Sliding) (x : Frac) → mirrored sliding_grid (grid_below sliding_grid (grid_value sliding_grid (sliding_grid.minus a) *F x)) ≡ grid_above sliding_grid (grid_value sliding_grid a *F x)
+unfolding grid_above neg_F ◌*F◌
+mirror_times a x = ap (mirrored sliding_grid) (below sliding_grid sliding_lawful _ _
+    (record { cross = ring (a.units ∷ x.top ∷ pos (16777216 * x.bot) ∷ []) (⊝ x0 ⊗ x1 ⊗ x2) (⊝ (x0 ⊗ x1) ⊗ x2) refl }))
+
+pub mirror_maybe : (a : Sliding) (o : Option Frac) → mirrored sliding_grid (o >>= (λ x. grid_below sliding_grid (grid_value sliding_grid (sliding_grid.minus a) *F x))) ≡ (o >>= (λ x. grid_above sliding_grid (grid_value sliding_grid a *F x)))
+mirror_maybe a None = refl
+mirror_maybe a (Some x) = mirror_times a x
+
+-- ---- order and whole numbers
 pub le_value : (v w : ℤ) → le_F (ratio v 16777216 (lit< tt)) (ratio w 16777216 (lit< tt)) ≡ le_z v w
 unfolding le_F
 le_value v w = leZ_times v w 16777216 (lit< tt)
@@ -154,73 +193,15 @@ pub ceil_value : (v : ℤ) → ceiling 65536 (ratio v 16777216 (lit< tt)) ≡ ne
 unfolding ceiling floor neg_F
 ceil_value v = ap neg_ℤ (coarse_floor (neg_ℤ v))
 
-pub at_count : (n : ℤ) (h : 0 < 1) → units_over sliding_grid (n *ℤ pos 256) 1 h ≈ count n
-unfolding units_over
-at_count n h = record { cross = omega (arith, ints) }
+module _ (v : ℤ) (b : nat_abs v ≤ 2 ^ 56) where
+  pub minus_fits : SFits w64 (pos 0 -ℤ to_z w64 (of_z w64 v))
+  minus_fits = omega (arith, ints)
 
--- ---- what the code computes, as plain numbers
-pub plain_scaled : (r m : ℤ) (s : ℕ) → nat_abs m ≤ 16777215 → mag r < 2 ^ 63 → r ≡ shifted (to_z w32 (of_z w32 m)) s → to_z w64 (of_z w64 r) ≡ shifted m s
-plain_scaled r m s p f e = to_z-of_z w64 r (record { sfits = f }) ∙ e ∙ ap (λ (z : ℤ). shifted z s) (plain32 m (omega arith))
+  inner : to_z w64 (of_z w64 (shr_z (to_z w64 (of_z w64 (pos 0 -ℤ to_z w64 (of_z w64 v)))) 256)) ≡ int_div_euclid (neg_ℤ v) (pos 256)
+  inner = plain_shr w64 (pos 0 -ℤ to_z w64 (of_z w64 v)) 8 minus_fits ∙ ap (λ (z : ℤ). int_div_euclid z (pos 256)) (omega (arith, ints))
 
-pub scaled_bound : (r m : ℤ) (s : ℕ) → nat_abs m ≤ 16777215 → mag r < 2 ^ 63 → r ≡ shifted (to_z w32 (of_z w32 m)) s → s ≤ 32 → nat_abs (to_z w64 (of_z w64 r)) ≤ 2 ^ 56
-scaled_bound r m s p f e q = let b = shifted_bound m s 32 16777215 p q in rw (plain_scaled r m s p f e) (omega arith)
+  pub outer_fits : SFits w64 (pos 0 -ℤ to_z w64 (of_z w64 (shr_z (to_z w64 (of_z w64 (pos 0 -ℤ to_z w64 (of_z w64 v)))) 256)))
+  outer_fits = let p = floor_low (neg_ℤ v) 256 (lit< tt) in let q = floor_next (neg_ℤ v) 256 (lit< tt) in rw inner (omega (arith, ints))
 
-pub zero_shift : (n k : ℤ) → n ≡ k → shifted n 0 *ℤ pos 1 ≡ k *ℤ pos 1
-zero_shift n k e = ap (λ (z : ℤ). shifted z 0 *ℤ pos 1) e ∙ ring (k ∷ []) (x0 ⊗ num (pos 1) ⊗ num (pos 1)) (x0 ⊗ num (pos 1)) refl
-
--- n units, at the number that is meant
-module _ (n k : ℤ) (h : 0 < 1) (e : n ≡ k) where
-  pub whole_below : grid_below sliding_grid (units_over sliding_grid (shifted n 0) 1 h) ≡ grid_below sliding_grid (units_over sliding_grid k 1 (lit< tt))
-  whole_below = same_below (shifted n 0) k 1 1 h (lit< tt) (zero_shift n k e)
-
-  pub whole_above : grid_above sliding_grid (units_over sliding_grid (shifted n 0) 1 h) ≡ grid_above sliding_grid (units_over sliding_grid k 1 (lit< tt))
-  whole_above = same_above (shifted n 0) k 1 1 h (lit< tt) (zero_shift n k e)
-
-pub one_shift : (k : ℕ) → k ≤ 24 → (1 * 2 ^ k) % 4294967296 ≡ 2 ^ k
-one_shift k h = shl_exact {a = 1} 1 k 32 (omega arith) (omega arith) ∙ omega arith
-
-pub by_shift : (a k : ℕ) → a ≤ 16777215 → k ≤ 8 → (a * 2 ^ k) % 4294967296 ≡ a * 2 ^ k
-by_shift a k p h = shl_exact {a = a} 24 k 32 (omega arith) (omega arith)
-
-module _ (x v : ℤ) (e : x ≡ v) (b : nat_abs v ≤ 2 ^ 56) where
-  pub minus_fits : SFits w64 (pos 0 -ℤ x)
-  minus_fits = rw e (omega (arith, ints))
-
-  inner : to_z w64 (of_z w64 (shr_z (to_z w64 (of_z w64 (pos 0 -ℤ x))) 256)) ≡ int_div_euclid (neg_ℤ v) (pos 256)
-  inner = plain_shr (pos 0 -ℤ x) 8 minus_fits ∙ ap (λ (z : ℤ). int_div_euclid z (pos 256)) (rw e (omega (arith, ints)))
-
-  range : (int_div_euclid (neg_ℤ v) (pos 256) ≤ℤ pos (2 ^ 57)) × (neg_ℤ (pos (2 ^ 57)) ≤ℤ int_div_euclid (neg_ℤ v) (pos 256))
-  range = let p = floor_low (neg_ℤ v) 256 (lit< tt) in let q = floor_next (neg_ℤ v) 256 (lit< tt) in (omega (arith, ints), omega (arith, ints))
-
-  pub outer_fits : SFits w64 (pos 0 -ℤ to_z w64 (of_z w64 (shr_z (to_z w64 (of_z w64 (pos 0 -ℤ x))) 256)))
-  outer_fits = let r = range in rw inner (omega (arith, ints))
-
-  pub plain_ceil8 : to_z w64 (of_z w64 (pos 0 -ℤ to_z w64 (of_z w64 (shr_z (to_z w64 (of_z w64 (pos 0 -ℤ x))) 256)))) ≡ neg_ℤ (int_div_euclid (neg_ℤ v) (pos 256))
-  plain_ceil8 = to_z-of_z w64 (pos 0 -ℤ to_z w64 (of_z w64 (shr_z (to_z w64 (of_z w64 (pos 0 -ℤ x))) 256))) outer_fits ∙ ap (λ (z : ℤ). pos 0 -ℤ z) inner ∙ omega (arith, ints)
-
--- a quotient by a mark that is not 0
-module _ (a b : Sliding) (k n : ℤ) (by d t : ℕ) (h : 0 < d) (some : 0 < by) (s : Stands (shifted k a.scale *ℤ pos 16777216) (by * 2 ^ b.scale) n d t) where
-  divisor : 0 < by * 2 ^ b.scale
-  divisor = mul-pos some (pow_pos b.scale)
-
-  cross_pos : k ≡ a.mantissa → shifted n t *ℤ pos (by * 2 ^ b.scale) ≡ (shifted a.mantissa a.scale *ℤ pos 16777216) *ℤ pos d
-  cross_pos e = s.cross ∙ ap (λ (z : ℤ). (shifted z a.scale *ℤ pos 16777216) *ℤ pos d) e
-
-  cross_neg : k ≡ neg_ℤ a.mantissa → shifted n t *ℤ pos (by * 2 ^ b.scale) ≡ (neg_ℤ (shifted a.mantissa a.scale) *ℤ pos 16777216) *ℤ pos d
-  cross_neg e = s.cross ∙ ap (λ (z : ℤ). (z *ℤ pos 16777216) *ℤ pos d) (negate_shifted k a.mantissa a.scale e)
-
-  pub div_below_pos : k ≡ a.mantissa → b.mantissa ≡ pos by → grid_below sliding_grid (units_over sliding_grid (shifted n t) d h) ≡ quotient_below (sliding_model) a b
-  div_below_pos e f = same_below _ _ d _ h divisor (cross_pos e)
-      ∙ quotient_below_pos sliding_grid sliding_lawful a b (by * 2 ^ b.scale) divisor (ap (λ (z : ℤ). shifted z b.scale) f)
-
-  pub div_above_pos : k ≡ a.mantissa → b.mantissa ≡ pos by → grid_above sliding_grid (units_over sliding_grid (shifted n t) d h) ≡ quotient_above (sliding_model) a b
-  div_above_pos e f = same_above _ _ d _ h divisor (cross_pos e)
-      ∙ quotient_above_pos sliding_grid sliding_lawful a b (by * 2 ^ b.scale) divisor (ap (λ (z : ℤ). shifted z b.scale) f)
-
-  pub div_below_neg : k ≡ neg_ℤ a.mantissa → b.mantissa ≡ neg_ℤ (pos by) → grid_below sliding_grid (units_over sliding_grid (shifted n t) d h) ≡ quotient_below (sliding_model) a b
-  div_below_neg e f = same_below _ _ d _ h divisor (cross_neg e)
-      ∙ quotient_below_neg sliding_grid sliding_lawful a b (by * 2 ^ b.scale) divisor (negate_shifted b.mantissa (pos by) b.scale f)
-
-  pub div_above_neg : k ≡ neg_ℤ a.mantissa → b.mantissa ≡ neg_ℤ (pos by) → grid_above sliding_grid (units_over sliding_grid (shifted n t) d h) ≡ quotient_above (sliding_model) a b
-  div_above_neg e f = same_above _ _ d _ h divisor (cross_neg e)
-      ∙ quotient_above_neg sliding_grid sliding_lawful a b (by * 2 ^ b.scale) divisor (negate_shifted b.mantissa (pos by) b.scale f)
+  pub plain_ceil8 : to_z w64 (of_z w64 (pos 0 -ℤ to_z w64 (of_z w64 (shr_z (to_z w64 (of_z w64 (pos 0 -ℤ to_z w64 (of_z w64 v)))) 256)))) ≡ ceiling 65536 (ratio v 16777216 (lit< tt))
+  plain_ceil8 = to_z-of_z w64 _ outer_fits ∙ ap (λ (z : ℤ). pos 0 -ℤ z) inner ∙ omega (arith, ints) ∙ sym (ceil_value v)

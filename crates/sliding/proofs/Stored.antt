@@ -1,32 +1,84 @@
--- The marks of the sliding kind, both ways.
-use Rattle.std.proofs.Common.{◌≡◌, ℕ, ◌≤◌, Bool, true, false, T, ℤ, pos, ◌*ℤ◌, nat_abs, ◌≤ℤ◌, Some, None, refl, ap, subst₂, arith}
+-- The marks of the sliding kind and their stored forms, both ways.
+use Rattle.std.proofs.Common.{◌≡◌, ℕ, zero, suc, ◌*◌, ◌^◌, ◌≤◌, Bool, true, false, ◌||◌, T, ℤ, pos, ◌*ℤ◌, nat_abs, Some, None, sym, refl, ap, ◌∙◌, arith, pow_pos, pow-suc, le→leb, lt_of_mul-lt-mul_right, le_of_mul-le-mul_right, w32, w64, SFits, to_z, of_z}
+use lib.Signed.{shr_z}
+use Rattle.kind.proofs.Plain.{plain32}
 use borrow.Author.Differences.{ints}
-use Rattle.exact.proofs.Integers.{≤ℤ_trans}
-use Rattle.sliding.specs.Rules.{found, same_mark, yes_normal}
-use Rattle.sliding.specs.Slides.{settled, shifted_bound}
-use Rattle.sliding.specs.Cut.{NotAbove, shifted}
-use Rattle.sliding.specs.Form.{Normal}
-use Rattle.sliding.specs.Grid.{first, mark, normal_yes, normal?, stored_as}
+use Rattle.std.proofs.lemmas.Int.{to_z-of_z, unsigned_abs-mul}
+use Rattle.std.specs.Prelude.{nat_le}
+use Rattle.std.specs.Int.{int_div_euclid}
+use Rattle.sliding.proofs.Scales.{plain_shr, scale_is, scale_short}
+use Rattle.sliding.specs.Cut.{Scale, cut, shifted}
+use Rattle.sliding.specs.Form.{Normal, OnGrid}
+use Rattle.sliding.specs.Grid.{mark, mark_if, normal_on, normal_yes, normal?, stored_as}
 use Rattle.sliding.specs.Marks.{SlidingMarks}
+use Rattle.sliding.specs.Rules.{from_both, made}
+use Rattle.sliding.specs.Slides.{cut_shifted, on_shifted}
 use Rattle.sliding.specs.declared.mark.Sliding.{Sliding}
 
-pub stored_some : (a : Sliding) (m : ℤ) (s : ℕ) → a.mantissa ≡ m → a.scale ≡ s → Some a ≡ stored_as m s
-stored_some a m s e f = go (normal? m s) (normal_yes m s) (yes_normal m s (subst₂ Normal e f a.normal))
-  where
-    go : (b : Bool) (h : T b → Normal m s) → T b → Some a ≡ first m s b h None
-    go true h t = ap Some (same_mark a (mark m s (h tt)) e f)
-    go false h t = absurd t
+-- ---- the mark of a stored form
+right : (a b : Bool) → T b → T (a || b)
+right true b h = tt
+right false b h = h
 
-held : (m : ℤ) (s : ℕ) → nat_abs m ≤ 16777215 → s ≤ 32 → (a : Sliding) × (shifted a.mantissa a.scale ≡ shifted m s)
-held m s p q =
-    let b = shifted_bound m s 32 16777215 p q in
-    let f = found (shifted m s) (omega (arith, ints)) (omega (arith, ints)) in
-    let u = settled (NotAbove (shifted m s)) (λ x y h z. ≤ℤ_trans h z) f.mark.mantissa f.mark.scale f.cell m s p (omega (arith, ints)) in
-    let l : shifted f.mark.mantissa f.mark.scale ≤ℤ shifted m s = f.cell.low in
-    (f.mark, omega (arith, ints))
+yes_normal : (m : ℤ) (s : ℕ) → Normal m s → T (normal? m s)
+yes_normal m zero h = from_both _ _ (le→leb _ _ h.0) (from_both (nat_le zero 32) (nat_le zero 0 || nat_le 8388608 (nat_abs m)) (le→leb zero 32 h.1) tt)
+yes_normal m (suc s) h = from_both _ _ (le→leb _ _ h.0) (from_both _ _ (le→leb (suc s) 32 h.1) (right _ _ (le→leb _ _ (h.2 (omega arith)))))
+
+pub stored_some : (a : Sliding) (m : ℤ) (s : ℕ) → Normal m s → a.units ≡ shifted m s → Some a ≡ stored_as m s
+stored_some a m s n e = made a (shifted m s) (normal? m s) (λ h. normal_on m s (normal_yes m s h)) None (yes_normal m s n) e
+
+-- ---- the stored form of a mark
+clear : (k : ℤ) (s : ℕ) → OnGrid k → Scale k s → cut k s ≡ k
+clear k zero g r = let e : shifted k 0 ≡ k = omega (arith, ints) in ap (λ (z : ℤ). cut z 0) (sym e) ∙ cut_shifted k 0 ∙ e
+clear k (suc t) g r = g.1 t (let f = r.full (omega arith) in let e = pow-suc 2 t in omega arith)
+
+module _ (k : ℤ) (s : ℕ) (g : OnGrid k) (r : Scale k s) where
+  abbrev m : ℤ
+  m = int_div_euclid k (pos (2 ^ s))
+
+  -- the bits that are cut are clear
+  pub is_stored : shifted m s ≡ k
+  is_stored = clear k s g r
+
+  size : nat_abs m * 2 ^ s ≡ nat_abs k
+  size = sym (unsigned_abs-mul m (pos (2 ^ s))) ∙ ap nat_abs is_stored
+
+  pub stored_normal : Normal m s
+  stored_normal = (
+    (let u = lt_of_mul-lt-mul_right (2 ^ s) {m = nat_abs m} {n = 16777216} (let e = size in let u = r.under in omega arith) in omega arith),
+    scale_short r g.0,
+    λ h. le_of_mul-le-mul_right {m = 8388608} {n = nat_abs m} {k = 2 ^ s} (let e = size in let f = r.full h in omega arith) (pow_pos s),
+  )
 
 pub sliding_marks : SlidingMarks
 sliding_marks = record {
-  each = λ m s p q. let a = held m s p q in (a.0, record { cross = ap (λ (z : ℤ). z *ℤ pos 16777216) a.1 });
-  only = λ a. (a.mantissa, a.scale, a.normal, record { cross = refl });
+  each = λ m s p q. (mark (shifted m s) (on_shifted m s p q), record { cross = refl });
+  only = λ a.
+      let r = scale_is a.units (nat_abs a.units) _ refl (let b = a.on_grid.0 in omega arith) refl in
+      (_, _, stored_normal a.units _ a.on_grid r, record { cross = ap (λ (z : ℤ). z *ℤ pos 16777216) (sym (is_stored a.units _ a.on_grid r)) });
 }
+
+-- what is stored as m and s is m × 2^s
+pub of_stored : (m : ℤ) (s : ℕ) (a : Sliding) → stored_as m s ≡ Some a → Normal m s × (a.units ≡ shifted m s)
+of_stored m s a e = go (normal? m s) (normal_yes m s) (λ h. normal_on m s (normal_yes m s h)) e
+  where
+    go : (b : Bool) → (T b → Normal m s) → (h : T b → OnGrid (shifted m s)) → mark_if (shifted m s) b h None ≡ Some a → Normal m s × (a.units ≡ shifted m s)
+    go true n h f = let g : mark (shifted m s) (h tt) ≡ a = cc in (n tt, ap (λ (x : Sliding). x.units) (sym g))
+    go false n h f = absurd (cc)
+
+-- what the code computes
+module _ (a : Sliding) (s : ℕ) (r : Scale (to_z w64 (of_z w64 a.units)) s) where
+  fits : SFits w64 a.units
+  fits = let b = a.on_grid.0 in omega (arith, ints)
+
+  scale : Scale a.units s
+  scale = rw (to_z-of_z w64 a.units fits) at r
+
+  pub parts_short : s ≤ 32
+  parts_short = scale_short scale a.on_grid.0
+
+  pub is_parts : stored_as (to_z w32 (of_z w32 (to_z w64 (of_z w64 (shr_z (to_z w64 (of_z w64 a.units)) (2 ^ s)))))) s ≡ Some a
+  is_parts =
+      let n = stored_normal a.units s a.on_grid scale in
+      let e = ap (λ (z : ℤ). to_z w32 (of_z w32 z)) (plain_shr w64 a.units s fits) ∙ plain32 (int_div_euclid a.units (pos (2 ^ s))) (let b = n.0 in omega arith) in
+      ap (λ (z : ℤ). stored_as z s) e ∙ sym (stored_some a (int_div_euclid a.units (pos (2 ^ s))) s n (sym (is_stored a.units s a.on_grid scale)))

@@ -1,19 +1,20 @@
--- The sliding kind: the marks m × 2^s / 2^24 in their stored form.
-use Rattle.std.specs.Prelude.{◌≡◌, ℕ, zero, suc, Bool, true, false, ◌&&◌, ◌||◌, T, ℤ, pos, neg_ℤ, Some, None, Option, nat_le, unsigned_abs}
+-- The sliding kind: marks in whole units of 2^-24.
+use Rattle.std.specs.Prelude.{ℕ, zero, suc, ◌*◌, ◌^◌, Bool, true, false, ◌&&◌, ◌||◌, T, ℤ, pos, neg_ℤ, Some, None, Option, nat_le, nat_lt, unsigned_abs}
 use Rattle.std.proofs.Common.{arith, leb→le, lit<, lit≤}
-use Rattle.std.proofs.lemmas.Int.{ints}
-use Rattle.std.specs.Int.{int_div_euclid}
 use Rattle.kind.specs.Grid.{Grid, grid_model}
 use Rattle.kind.specs.Model.{Model}
-use Rattle.sliding.specs.Cut.{shifted}
-use Rattle.sliding.specs.Form.{Normal}
+use Rattle.sliding.specs.Cut.{cut, shifted}
+use Rattle.sliding.specs.Form.{Normal, OnGrid}
+use Rattle.sliding.specs.Slides.{on_cut, on_negative, on_shifted}
 use Rattle.sliding.specs.declared.mark.Sliding.{Sliding}
 
-abbrev pub mark : (m : ℤ) (s : ℕ) → Normal m s → Sliding
-mark m s h = record { mantissa = m; scale = s; normal = h }
+abbrev pub mark : (k : ℤ) → OnGrid k → Sliding
+mark k h = record { units = k; on_grid = h }
 
-abbrev pub normal? : ℤ → ℕ → Bool
-normal? m s = nat_le (unsigned_abs m) 16777215 && (nat_le s 32 && (nat_le s 0 || nat_le 8388608 (unsigned_abs m)))
+-- the mark of k units, where b says that it is one
+abbrev pub mark_if : (k : ℤ) (b : Bool) → (T b → OnGrid k) → Option Sliding → Option Sliding
+mark_if k true h rest = Some (mark k (h tt))
+mark_if k false h rest = rest
 
 both : (a b : Bool) → T (a && b) → T a × T b
 both true b h = (tt, h)
@@ -23,41 +24,46 @@ other : (a b : Bool) → T (a || b) → (T a → ⊥) → T b
 other true b h n = absurd (n tt)
 other false b h n = h
 
+-- ---- the mark that is stored as m and s, if that is a stored form
+abbrev pub normal? : ℤ → ℕ → Bool
+normal? m s = nat_le (unsigned_abs m) 16777215 && (nat_le s 32 && (nat_le s 0 || nat_le 8388608 (unsigned_abs m)))
+
 pub normal_yes : (m : ℤ) (s : ℕ) → T (normal? m s) → Normal m s
 normal_yes m s h =
     let p = both (nat_le (unsigned_abs m) 16777215) (nat_le s 32 && (nat_le s 0 || nat_le 8388608 (unsigned_abs m))) h in
     let q = both (nat_le s 32) (nat_le s 0 || nat_le 8388608 (unsigned_abs m)) p.1 in
     (leb→le _ _ p.0, leb→le _ _ q.0, λ k. leb→le _ _ (other (nat_le s 0) (nat_le 8388608 (unsigned_abs m)) q.1 (λ t. let z = leb→le s 0 t in omega arith)))
 
-pub abs_negative : (m : ℤ) → unsigned_abs (neg_ℤ m) ≡ unsigned_abs m
-abs_negative m = omega (arith, ints)
+pub normal_on : (m : ℤ) (s : ℕ) → Normal m s → OnGrid (shifted m s)
+normal_on m s h = on_shifted m s h.0 h.1
 
-pub normal_negative : (m : ℤ) (s : ℕ) → Normal m s → Normal (neg_ℤ m) s
-normal_negative m s h = let e = abs_negative m in (omega arith, h.1, λ k. let z = h.2 k in omega arith)
-
--- the first stored form of ⌊k / 2^s⌋, s = 0, 1, .. 32
-abbrev pub first : (m : ℤ) (s : ℕ) (b : Bool) → (T b → Normal m s) → Option Sliding → Option Sliding
-first m s true h rest = Some (mark m s (h tt))
-first m s false h rest = rest
-
--- the mark that is stored as m and s, if that is a stored form
 abbrev pub stored_as : ℤ → ℕ → Option Sliding
-stored_as m s = first m s (normal? m s) (normal_yes m s) None
+stored_as m s = mark_if (shifted m s) (normal? m s) (λ h. normal_on m s (normal_yes m s h)) None
 
-unfoldable pub slide : ℕ → ℤ → ℕ → Option Sliding
-slide zero m s = None
-slide (suc f) m s = first m s (normal? m s) (normal_yes m s) (slide f (int_div_euclid m (pos 2)) (suc s))
+-- ---- a number of units is cut at the first s at which it has at most 24 + s bits, s = 0, 1, .. 32
+abbrev pub short? : ℤ → ℕ → Bool
+short? k s = nat_le (unsigned_abs k) 72057589742960640 && (nat_le s 32 && nat_lt (unsigned_abs k) (16777216 * 2 ^ s))
+
+pub short_on : (k : ℤ) (s : ℕ) → T (short? k s) → OnGrid (cut k s)
+short_on k s h =
+    let p = both (nat_le (unsigned_abs k) 72057589742960640) (nat_le s 32 && nat_lt (unsigned_abs k) (16777216 * 2 ^ s)) h in
+    let q = both (nat_le s 32) (nat_lt (unsigned_abs k) (16777216 * 2 ^ s)) p.1 in
+    on_cut k s (leb→le _ _ p.0) (leb→le _ _ q.1) (leb→le _ _ q.0)
+
+unfoldable pub slide : ℕ → ℕ → ℤ → Option Sliding
+slide zero s k = None
+slide (suc f) s k = mark_if (cut k s) (short? k s) (short_on k s) (slide f (suc s) k)
 
 abbrev pub sliding_grid : Grid Sliding
 sliding_grid = record {
   unit = 16777216;
   some_unit = lit< tt;
-  size = λ a. shifted a.mantissa a.scale;
-  top = mark (pos 16777215) 32 (lit≤ tt, lit≤ tt, λ _. lit≤ tt);
-  nought = mark (pos 0) 0 (lit≤ tt, lit≤ tt, λ h. absurd (omega (arith, h)));
-  one = mark (pos 8388608) 1 (lit≤ tt, lit≤ tt, λ _. lit≤ tt);
-  minus = λ a. mark (neg_ℤ a.mantissa) a.scale (normal_negative a.mantissa a.scale a.normal);
-  down = λ k. slide 33 k 0;
+  size = λ a. a.units;
+  top = mark (pos 72057589742960640) (on_shifted (pos 16777215) 32 (lit≤ tt) (lit≤ tt));
+  nought = mark (pos 0) (on_shifted (pos 0) 0 (lit≤ tt) (lit≤ tt));
+  one = mark (pos 16777216) (on_shifted (pos 8388608) 1 (lit≤ tt) (lit≤ tt));
+  minus = λ a. mark (neg_ℤ a.units) (on_negative a.units a.on_grid);
+  down = slide 33 0;
 }
 
 abbrev pub sliding_model : Model Sliding

@@ -5,3 +5,4 @@ pub mod Marks
 pub mod Ratios
 pub mod Rules
 pub mod Slides
+pub mod Whole

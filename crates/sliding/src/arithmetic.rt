@@ -1,15 +1,14 @@
 // The sliding kind keeps the rules of a kind.
-ghost use Rattle.std.specs.Prelude.{◌≡◌, ◌*◌, ◌^◌, ◌≤◌, pos, ◌*ℤ◌, ◌<ℤ◌, unsigned_abs};
+ghost use Rattle.std.specs.Prelude.{◌≡◌, ◌*◌, ◌^◌, ◌≤◌, pos, ◌*ℤ◌, ◌<ℤ◌, Some, unsigned_abs};
 ghost use Rattle.kind.specs.Model as kinds;
-ghost use Rattle.sliding.specs.Cut.{Stands, shifted};
+ghost use Rattle.sliding.specs.Cut.{Stands};
 ghost use Rattle.sliding.specs.Grid.{sliding_grid, sliding_model, stored_as};
 ghost use Rattle.sliding.specs.Marks.{SlidingMarks};
-ghost use Rattle.sliding.specs.Ratios as ratios;
 ghost use Rattle.sliding.specs.Rules.{sliding_rules};
 
 use crate::mark::Sliding;
-use crate::ratio::{Ratio, Shift};
-use crate::rounding::scaled;
+use crate::ratio::Ratio;
+use crate::rounding::{TOP, above, below, scale_of};
 use kind::NumberKind;
 
 impl Sliding {
@@ -27,100 +26,82 @@ impl Sliding {
         if scale > 0 && size < 8_388_608 {
             return None;
         }
-        Some(Sliding { mantissa, scale })
+        Some(Sliding {
+            units: i64::from(mantissa) << scale,
+        })
+    }
+
+    // The stored form of the mark: its mantissa and its scale.
+    pub fn parts(self) -> (i32, u32)
+        ensures { stored_as result.0 result.1 ≡ Some self }
+    {
+        let scale = scale_of(self.units);
+        ((self.units >> scale) as i32, scale)
     }
 
     // The mark in whole 1/16,777,216, exactly.
-    #[tactic(auto, using(crate::proofs::Ops::plain_scaled, crate::proofs::Ops::scaled_bound))]
     pub fn units(self) -> i64
         ensures value { result ≡ sliding_grid.size self }
         ensures bound { unsigned_abs result ≤ 2 ^ 56 }
     {
-        scaled(self.mantissa, self.scale)
+        self.units
     }
 
+    #[inline(always)]
     pub(crate) fn opposite(self) -> Sliding
         ensures { result ≡ sliding_grid.minus self }
     {
-        Sliding {
-            mantissa: -self.mantissa,
-            scale: self.scale,
-        }
+        Sliding { units: -self.units }
     }
 }
 
-// n counts
-fn whole(n: i32) -> Shift
-    ensures below { ratios.shift_below result ≡ kinds.count_below sliding_model n }
-    ensures above { ratios.shift_above result ≡ kinds.count_above sliding_model n }
+#[inline(always)]
+fn product(a: Sliding, b: Sliding) -> Option<Sliding>
+    ensures { result ≡ kinds.product_below sliding_model a b }
 {
-    Shift {
-        n: i64::from(n) * 256,
-        j: 0,
-        t: 0,
+    let n = i128::from(a.units) * i128::from(b.units);
+    if n.unsigned_abs() > u128::from(TOP) << 24 {
+        return None;
     }
-}
-
-fn sum(a: Sliding, b: Sliding) -> Shift
-    ensures below { ratios.shift_below result ≡ kinds.sum_below sliding_model a b }
-    ensures above { ratios.shift_above result ≡ kinds.sum_above sliding_model a b }
-{
-    Shift {
-        n: a.units() + b.units(),
-        j: 0,
-        t: 0,
-    }
-}
-
-fn product(a: Sliding, b: Sliding) -> Shift
-    ensures below { ratios.shift_below result ≡ kinds.product_below sliding_model a b }
-    ensures above { ratios.shift_above result ≡ kinds.product_above sliding_model a b }
-{
-    let n = i64::from(a.mantissa) * i64::from(b.mantissa);
-    let t = a.scale + b.scale;
-    if t < 24 {
-        return Shift { n, j: 24 - t, t: 0 };
-    }
-    if n == 0 {
-        return Shift { n, j: 0, t: 0 };
-    }
-    Shift { n, j: 0, t: t - 24 }
+    below((n >> 24) as i64)
 }
 
 // The quotient of a by a positive b.
 fn over(a: Sliding, b: Sliding) -> Ratio
-    requires { pos 0 <ℤ b.mantissa }
-    ensures { Stands (shifted a.mantissa a.scale *ℤ pos 16777216) (unsigned_abs b.mantissa * 2 ^ b.scale) result.n result.d result.t }
+    requires { pos 0 <ℤ b.units }
+    ensures { Stands (a.units *ℤ pos 16777216) (unsigned_abs b.units) result.n result.d result.t }
 {
-    let d = b.mantissa.unsigned_abs();
-    if b.scale > a.scale + 24 {
+    let (m, s) = a.parts();
+    let (by, r) = b.parts();
+    let n = i64::from(m);
+    let d = by.unsigned_abs();
+    if r > s + 24 {
         return Ratio {
-            n: i64::from(a.mantissa),
-            d: d << (b.scale - a.scale - 24),
+            n,
+            d: d << (r - s - 24),
             t: 0,
         };
     }
-    let j = a.scale + 24 - b.scale;
+    let j = s + 24 - r;
     let t = j.saturating_sub(38);
     Ratio {
-        n: scaled(a.mantissa, j - t),
+        n: n << (j - t),
         d,
         t,
     }
 }
 
 // Absent for the divisor 0.
-fn quotient(a: Sliding, b: Sliding) -> Option<Ratio>
-    ensures below { ratios.maybe_below result ≡ kinds.quotient_below sliding_model a b }
-    ensures above { ratios.maybe_above result ≡ kinds.quotient_above sliding_model a b }
+fn quotient(a: Sliding, b: Sliding) -> Option<Sliding>
+    ensures { result ≡ kinds.quotient_below sliding_model a b }
 {
-    if b.mantissa == 0 {
+    if b.units == 0 {
         return None;
     }
-    if b.mantissa < 0 {
-        return Some(over(a.opposite(), b.opposite()));
+    if b.units < 0 {
+        return over(a.opposite(), b.opposite()).below();
     }
-    Some(over(a, b))
+    over(a, b).below()
 }
 
 // Each operation is a line, as in the fixed kind: its exact result, rounded. A trait between the two and `NumberKind` would be longer.
@@ -130,66 +111,66 @@ impl NumberKind for Sliding {
     ghost rules = { sliding_rules };
 
     fn zero() -> Sliding {
-        Sliding {
-            mantissa: 0,
-            scale: 0,
-        }
+        Sliding { units: 0 }
     }
 
     fn one() -> Sliding {
-        Sliding {
-            mantissa: 8_388_608,
-            scale: 1,
-        }
+        Sliding { units: 16_777_216 }
     }
 
+    #[inline(always)]
     #[tactic(auto, using(crate::proofs::Ops::le_value))]
     fn at_most(self, other: Sliding) -> bool {
-        self.units() <= other.units()
+        self.units <= other.units
     }
 
+    #[inline(always)]
     fn negated(self) -> Sliding {
         self.opposite()
     }
 
+    #[inline(always)]
     fn sum_below(self, other: Sliding) -> Option<Sliding> {
-        sum(self, other).below()
+        below(self.units + other.units)
     }
 
+    #[inline(always)]
     fn sum_above(self, other: Sliding) -> Option<Sliding> {
-        sum(self, other).above()
+        above(self.units + other.units)
     }
 
+    #[inline(always)]
     fn product_below(self, other: Sliding) -> Option<Sliding> {
-        product(self, other).below()
+        product(self, other)
     }
 
+    #[inline(always)]
     fn product_above(self, other: Sliding) -> Option<Sliding> {
-        product(self, other).above()
+        product(self.opposite(), other).map(Sliding::opposite)
     }
 
     fn quotient_below(self, other: Sliding) -> Option<Sliding> {
-        quotient(self, other)?.below()
+        quotient(self, other)
     }
 
     fn quotient_above(self, other: Sliding) -> Option<Sliding> {
-        quotient(self, other)?.above()
+        quotient(self.opposite(), other).map(Sliding::opposite)
     }
 
     fn count_below(n: i32) -> Option<Sliding> {
-        whole(n).below()
+        below(i64::from(n) * 256)
     }
 
     fn count_above(n: i32) -> Option<Sliding> {
-        whole(n).above()
+        above(i64::from(n) * 256)
     }
 
     #[tactic(auto, using(crate::proofs::Ops::floor_value))]
     fn floor(self) -> i64 {
-        self.units() >> 8
+        self.units >> 8
     }
 
     fn ceiling(self) -> i64 {
-        -(-self.units() >> 8)
+        -(-self.units >> 8)
     }
 }

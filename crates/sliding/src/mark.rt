@@ -1,10 +1,9 @@
 // The marks of the sliding kind.
-ghost use Rattle.sliding.specs.Form.{Normal};
+ghost use Rattle.sliding.specs.Form.{OnGrid};
 
-// A mark of the sliding kind in its stored form: `mantissa` × 2^e with e = `scale` − 24.
+// A mark of the sliding kind in whole units of 1/16,777,216.
 #[derive(Clone, Copy, PartialEq, Eq, Debug)]
 pub struct Sliding {
-    pub mantissa: i32,
-    pub scale: u32,
-    ghost normal: { Normal mantissa scale },
+    pub units: i64,
+    ghost on_grid: { OnGrid units },
 }
