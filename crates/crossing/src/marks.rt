@@ -42,9 +42,7 @@ impl Crossing for Sliding {
     }
 
     fn mark(self) -> CMark {
-        CMark {
-            number: self.mantissa,
-            scale: self.scale,
-        }
+        let (number, scale) = self.parts();
+        CMark { number, scale }
     }
 }

@@ -1,17 +1,8 @@
 -- Steps in turn.
-use Rattle.std.proofs.Common.{◌≡◌, ℕ, Some, None, Ok, Err, Option, Result, sym, refl, ap, subst, MatchResult}
+use Rattle.std.proofs.Common.{◌≡◌, ℕ, Some, None, Ok, Err, Option, sym, refl, ap, subst, MatchResult}
 use Rattle.exact.specs.Optional.{◌>>=◌}
-use Rattle.fault.specs.Refusals.{after}
 use Rattle.fault.specs.declared.fault.Fault.{Fault}
 use Rattle.slope.specs.Rules.{given}
-
--- three steps, the last two together
-pub last_two : {X Y Z V : Type 0} (f : X × Y × Z → Result V Fault) (x : Result X Fault) (y : Result Y Fault) (z : Result Z Fault)
-    → after x (λ a. after {X = Y × Z} (after y (λ b. after z (λ c. Ok (b, c)))) (λ p. f (a, p.0, p.1))) ≡ after (after x (λ a. after y (λ b. after z (λ c. Ok (a, b, c))))) f
-last_two f (Err e) y z = refl
-last_two f (Ok a) (Err e) z = refl
-last_two f (Ok a) (Ok b) (Err e) = refl
-last_two f (Ok a) (Ok b) (Ok c) = refl
 
 module _ {X Y : Type 0} (place : ℕ) (f : X → Option Y) where
   -- a step that is there goes on
