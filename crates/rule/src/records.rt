@@ -46,17 +46,6 @@ fn channel_range(b: &ChannelBox, c: usize, place: usize) -> Result<Range, Fault>
     range_at(&b.ranges[..b.channels], c, place)
 }
 
-fn channel<K: NumberKind>(b: &ChannelBox, c: usize, place: usize) -> Result<Record<K>, Fault>
-    ensures { result ≡ rules.channel K.NumberKind.model (box_of b.now) c place }
-{
-    let range = channel_range(b, c, place)?;
-    if c == b.swept {
-        swept_range(range, b.centre, place)
-    } else {
-        still_range(range, place)
-    }
-}
-
 fn constant<K: NumberKind>(n: i64, place: usize) -> Result<Record<K>, Fault>
     ensures { result ≡ rules.constant K.NumberKind.model n place }
 {
@@ -220,6 +209,31 @@ fn put_curve<K: NumberKind, C: Curve<K>>(
     Ok(())
 }
 
+#[inline(always)]
+fn put_swept<K: NumberKind>(
+    records: &mut [Record<K>],
+    n: usize,
+    range: Range,
+    centre: i32,
+) -> Result<(), Fault>
+    requires { n < length records.old }
+    ensures answer { result ≡ accepts (rules.swept_range K.NumberKind.model range.lower range.upper centre n) }
+    ensures records { records.new ≡ stored records.old n (rules.swept_range K.NumberKind.model range.lower range.upper centre n) }
+{
+    records[n] = swept_range(range, centre, n)?;
+    Ok(())
+}
+
+#[inline(always)]
+fn put_still<K: NumberKind>(records: &mut [Record<K>], n: usize, range: Range) -> Result<(), Fault>
+    requires { n < length records.old }
+    ensures answer { result ≡ accepts (rules.still_range K.NumberKind.model range.lower range.upper n) }
+    ensures records { records.new ≡ stored records.old n (rules.still_range K.NumberKind.model range.lower range.upper n) }
+{
+    records[n] = still_range(range, n)?;
+    Ok(())
+}
+
 #[inline(never)]
 fn put_channel<K: NumberKind>(
     b: &ChannelBox,
@@ -228,11 +242,15 @@ fn put_channel<K: NumberKind>(
     c: usize,
 ) -> Result<(), Fault>
     requires { n < length records.old }
-    ensures answer { result ≡ accepts (rules.channel K.NumberKind.model (box_of b.now) c (length (take n records.old))) }
-    ensures records { records.new ≡ stored records.old n (rules.channel K.NumberKind.model (box_of b.now) c (length (take n records.old))) }
+    ensures answer { result ≡ accepts (rules.channel K.NumberKind.model (box_of b.now) c n) }
+    ensures records { records.new ≡ stored records.old n (rules.channel K.NumberKind.model (box_of b.now) c n) }
 {
-    records[n] = channel(b, c, n)?;
-    Ok(())
+    let range = channel_range(b, c, n)?;
+    if c == b.swept {
+        put_swept(records, n, range, b.centre)
+    } else {
+        put_still(records, n, range)
+    }
 }
 
 #[inline(never)]
