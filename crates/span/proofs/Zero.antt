@@ -1,5 +1,6 @@
 -- The span [0]: what is found to be it is it, it leaves a sum as it was, and any product with it is it, of spans in any order.
-use Rattle.std.proofs.Common.{◌≡◌, Bool, true, false, cond, ◌&&◌, Some, Option, refl, sym, ap₂, T, subst}
+use Rattle.std.proofs.Common.{◌≡◌, Bool, true, false, cond, Some, Option, refl, sym, ap₂, subst}
+use Rattle.std.proofs.lemmas.Bool.{and_parts}
 use Rattle.exact.proofs.Fractions.{*-cong, +-cong, F_add_comm, F_mul_comm, F_neg_is, F_zero_add, F_zero_mul, ≈_refl, ≈_sym, ≈_trans}
 use Rattle.exact.proofs.Order.{le_F_true, le_F_yes, ≤F_antisym, ≤F_refl}
 use Rattle.exact.specs.Fraction.{Frac, ◌*F◌, ◌+F◌, ◌≈◌}
@@ -8,11 +9,6 @@ use Rattle.kind.specs.Model.{Model, Rules}
 use Rattle.span.specs.Spans.{corners, difference, ends, from_zero, is_nought, is_zero, product, product_across, product_down, product_up, span, sum, to_zero, zero_span}
 use Rattle.span.specs.declared.span.Span.{Span}
 
-pub both_true : (a b : Bool) → a && b ≡ true → (a ≡ true) × (b ≡ true)
-both_true true true e = (refl, refl)
-both_true true false e = absurd (subst T (sym e) tt)
-both_true false b e = absurd (subst T (sym e) tt)
-
 -- what both branches are
 either : {X : Type 0} (b : Bool) (x y z : X) → x ≡ z → y ≡ z → cond b x y ≡ z
 either true x y z e f = e
@@ -20,10 +16,10 @@ either false x y z e f = f
 
 module _ {K : Type 0} (m : Model K) (rules : Rules m) where
   is_nought_is : (a : K) → is_nought m a ≡ true → a ≡ m.nought
-  is_nought_is a e = let p = both_true _ _ e in rules.distinct _ _ (≤F_antisym (le_F_yes _ _ p.0) (le_F_yes _ _ p.1))
+  is_nought_is a e = let p = and_parts _ _ e in rules.distinct _ _ (≤F_antisym (le_F_yes _ _ p.0) (le_F_yes _ _ p.1))
 
   pub is_zero_is : (s : Span K) → is_zero m s ≡ true → s ≡ zero_span m
-  is_zero_is s e = let p = both_true _ _ e in ap₂ (λ a b. span m a b) (is_nought_is s.lower p.0) (is_nought_is s.upper p.1)
+  is_zero_is s e = let p = and_parts _ _ e in ap₂ (λ a b. span m a b) (is_nought_is s.lower p.0) (is_nought_is s.upper p.1)
 
   -- ---- marks
   nought_times : (x : Frac) → (m.value m.nought *F x) ≈ m.value m.nought
