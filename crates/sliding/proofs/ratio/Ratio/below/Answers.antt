@@ -1,6 +1,5 @@
-use Rattle.std.proofs.Common.{◌≡◌, ℤ, pos, ap, ◌∙◌, arith, w64, to_z, of_z}
+use Rattle.std.proofs.Common.{◌∙◌, arith}
 use borrow.Author.Differences.{ints}
-use Rattle.std.specs.Int.{int_div_euclid}
 use Rattle.sliding.proofs.Rounds.{ratio_beyond, ratio_within}
 use Rattle.sliding.proofs.ratio.Ratio.below.Goals as goal
 
@@ -12,5 +11,4 @@ returns-then-from c =
 pub returns : goal.returns
 returns c =
     let l = rw c.from-3.ensures at c.if-from.false in let e = c.unsigned_abs.ensures.value in let b = c.args.self.held.bound in
-    let x : to_z w64 (of_z w64 c.args.self.n) ≡ c.args.self.n = omega (arith, ints) in
-    c.below.ensures ∙ ratio_within c.args.self.n c.args.self.d c.args.self.t _ c.args.self.held c.from-2.ensures (omega (arith, ints)) _ (c.floor.ensures ∙ ap (λ (z : ℤ). int_div_euclid z (pos c.args.self.d)) x)
+    c.below.ensures ∙ ratio_within c.args.self.n c.args.self.d c.args.self.t _ c.args.self.held c.from-2.ensures (omega (arith, ints)) _ c.floor.ensures
