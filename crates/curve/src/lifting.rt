@@ -31,6 +31,7 @@ pub trait Curve<K: NumberKind>: Copy {
 }
 
 // A = G × Au; B = E × Bu; C = G × Cu + (K × Au) × Bu
+#[inline(always)]
 fn lift_slopes<K: NumberKind>(base: Base<K>, f: &Shape<K>, p: &Record<K>) -> Record<K>
     ensures { result ≡ rec base.u base.u0 (curves.lift_slopes K.NumberKind.model f.now p.now.slopes) }
 {
@@ -62,6 +63,7 @@ fn lift_slopes<K: NumberKind>(base: Base<K>, f: &Shape<K>, p: &Record<K>) -> Rec
 }
 
 // The record of a curve's value.
+#[inline(always)]
 pub fn lift<K: NumberKind, C: Curve<K>>(
     curve: C,
     p: &Record<K>,

@@ -1,4 +1,5 @@
 pub mod AllTrue
+pub mod Constants
 pub mod Exits
 pub mod Fits
 pub mod Places

@@ -46,13 +46,6 @@ fn channel_range(b: &ChannelBox, c: usize, place: usize) -> Result<Range, Fault>
     range_at(&b.ranges[..b.channels], c, place)
 }
 
-fn constant<K: NumberKind>(n: i64, place: usize) -> Result<Record<K>, Fault>
-    ensures { result ≡ rules.constant K.NumberKind.model n place }
-{
-    let n = count(n, place)?;
-    still_range(Range { lower: n, upper: n }, place)
-}
-
 fn operand<K: NumberKind>(earlier: &[Record<K>], l: usize) -> Result<&Record<K>, Fault>
     ensures { lent result ≡ rules.operand earlier.now l }
 {
@@ -247,10 +240,11 @@ fn put_channel<K: NumberKind>(
 {
     let range = channel_range(b, c, n)?;
     if c == b.swept {
-        put_swept(records, n, range, b.centre)
+        put_swept(records, n, range, b.centre)?;
     } else {
-        put_still(records, n, range)
+        put_still(records, n, range)?;
     }
+    Ok(())
 }
 
 #[inline(never)]
@@ -259,7 +253,8 @@ fn put_constant<K: NumberKind>(records: &mut [Record<K>], n: usize, k: i64) -> R
     ensures answer { result ≡ accepts (rules.constant K.NumberKind.model k (length (take n records.old))) }
     ensures records { records.new ≡ stored records.old n (rules.constant K.NumberKind.model k (length (take n records.old))) }
 {
-    records[n] = constant(k, n)?;
+    let k = count(k, n)?;
+    put_still(records, n, Range { lower: k, upper: k })?;
     Ok(())
 }
 

@@ -7,21 +7,21 @@ use Rattle.std.specs.Int.{int_div_euclid, w128}
 use Rattle.exact.proofs.Floors.{floor_between, floor_low, floor_next}
 use Rattle.exact.proofs.Integers.{leZ_times, ring}
 use Rattle.exact.proofs.Ring.{◌⊗◌, num, x0, x1, x2, x3, ⊝◌}
-use Rattle.exact.specs.Optional.{◌>>=◌}
 use Rattle.exact.specs.Floor.{ceiling, floor}
 use Rattle.exact.specs.Fraction.{Frac, ◌*F◌, ◌≈◌, le_F, neg_F, ratio}
+use Rattle.exact.specs.Optional.{◌>>=◌}
 use Rattle.kind.proofs.GridOps.{above, below, product_below_is, quotient_below_neg, quotient_below_pos, sum_above_is, sum_below_is}
+use Rattle.kind.proofs.Plain.{product_bound}
 use Rattle.kind.specs.Grid.{grid_above, grid_below, grid_value, mirrored, units_over}
 use Rattle.kind.specs.Model.{count, count_above, count_below, product_below, quotient_below, sum_above, sum_below}
-use Rattle.kind.proofs.Plain.{product_bound}
 use Rattle.sliding.proofs.Rounds.{by_floor, floor_small, ratio_none}
 use Rattle.sliding.proofs.Scales.{plain_part, plain_shr}
 use Rattle.sliding.proofs.Stored.{of_stored}
 use Rattle.sliding.specs.Cut.{Stands, shifted}
 use Rattle.sliding.specs.Form.{Normal}
-use Rattle.sliding.specs.Slides.{shifted_add, shifted_bound}
 use Rattle.sliding.specs.Grid.{sliding_grid, sliding_model, stored_as}
 use Rattle.sliding.specs.Rules.{sliding_lawful}
+use Rattle.sliding.specs.Slides.{shifted_add, shifted_bound}
 use Rattle.sliding.specs.Whole as whole
 use Rattle.sliding.specs.declared.mark.Sliding.{Sliding}
 
@@ -69,7 +69,8 @@ module _ (a b : Sliding) (x y : ℤ) (e : x ≡ to_z w64 (of_z w64 a.units)) (f 
   is_product_below h =
       let k = rw plain at h in
       let c = floor_small (a.units *ℤ b.units) 16777216 (lit< tt) 72057589742960640 k in
-      let j : to_z w128 (of_z w128 (shr_z (to_z w128 (of_z w128 n)) 16777216)) ≡ int_div_euclid (a.units *ℤ b.units) (pos 16777216) = plain_shr w128 n 24 fits ∙ ap (λ (z : ℤ). int_div_euclid z (pos 16777216)) exact in
+      let j : to_z w128 (of_z w128 (shr_z (to_z w128 (of_z w128 n)) 16777216)) ≡ int_div_euclid (a.units *ℤ b.units) (pos 16777216) =
+      plain_shr w128 n 24 fits ∙ ap (λ (z : ℤ). int_div_euclid z (pos 16777216)) exact in
       ap (λ (z : ℤ). whole.below (to_z w64 (of_z w64 z))) j
       ∙ ap (λ (z : ℤ). whole.below z) (to_z-of_z w64 (int_div_euclid (a.units *ℤ b.units) (pos 16777216)) (omega (arith, ints)))
       ∙ by_floor (a.units *ℤ b.units) 16777216 (lit< tt) k
@@ -80,12 +81,15 @@ module _ (a b : Sliding) (x y : ℤ) (e : x ≡ to_z w64 (of_z w64 a.units)) (f 
 ratio_of : (x y z : ℕ) → x ≡ y + z → pos (2 ^ x) ≡ pos (2 ^ y) *ℤ pos (2 ^ z)
 ratio_of x y z e = ap (λ (n : ℕ). pos (2 ^ n)) e ∙ ap pos (pow-add 2 y z)
 
-pub quotient_coarse : (m n : ℤ) (a by s d : ℕ) → n ≡ m → nat_abs m ≤ 16777215 → 0 < by → a + 24 < s → d ≡ by * 2 ^ (s - a - 24) → Stands (shifted m a *ℤ pos 16777216) (by * 2 ^ s) n d 0
+pub quotient_coarse : (m n : ℤ) (a by s d : ℕ) → n ≡ m → nat_abs m ≤ 16777215 → 0 < by → a + 24 < s → d ≡ by * 2 ^ (s - a - 24)
+    → Stands (shifted m a *ℤ pos 16777216) (by * 2 ^ s) n d 0
 quotient_coarse m n a by s d g p q h e = let o = pow_pos (s - a - 24) in let w = mul-pos q o in record {
   held = record { positive = omega arith; bound = subst (λ (z : ℤ). nat_abs z ≤ 2 ^ 62) (sym g) (omega arith); wide = λ z. omega arith; short = omega arith };
   cross = ap (λ (z : ℤ). shifted z 0 *ℤ pos (by * 2 ^ s)) g
-      ∙ ap (λ (z : ℤ). (m *ℤ pos 1) *ℤ (pos by *ℤ z)) (ratio_of s (a + 24) (s - a - 24) (omega arith) ∙ ap (λ (z : ℤ). z *ℤ pos (2 ^ (s - a - 24))) (ratio_of (a + 24) a 24 refl))
-      ∙ ring (m ∷ pos by ∷ pos (2 ^ a) ∷ pos (2 ^ (s - a - 24)) ∷ []) (x0 ⊗ num (pos 1) ⊗ (x1 ⊗ (x2 ⊗ num (pos 16777216) ⊗ x3))) (x0 ⊗ x2 ⊗ num (pos 16777216) ⊗ (x1 ⊗ x3)) refl
+      ∙ ap (λ (z : ℤ). (m *ℤ pos 1) *ℤ (pos by *ℤ z))
+      (ratio_of s (a + 24) (s - a - 24) (omega arith) ∙ ap (λ (z : ℤ). z *ℤ pos (2 ^ (s - a - 24))) (ratio_of (a + 24) a 24 refl))
+      ∙ ring (m ∷ pos by ∷ pos (2 ^ a) ∷ pos (2 ^ (s - a - 24)) ∷ [])
+      (x0 ⊗ num (pos 1) ⊗ (x1 ⊗ (x2 ⊗ num (pos 16777216) ⊗ x3))) (x0 ⊗ x2 ⊗ num (pos 16777216) ⊗ (x1 ⊗ x3)) refl
       ∙ ap (λ (k : ℕ). (shifted m a *ℤ pos 16777216) *ℤ pos k) (sym e);
 }
 
@@ -95,13 +99,15 @@ quotient_cross m a by s j e =
     ∙ ap (λ (z : ℤ). (m *ℤ z) *ℤ pos by) (sym (ratio_of (a + 24) j s (sym e)) ∙ ratio_of (a + 24) a 24 refl)
     ∙ ring (m ∷ pos by ∷ pos (2 ^ a) ∷ []) (x0 ⊗ (x2 ⊗ num (pos 16777216)) ⊗ x1) (x0 ⊗ x2 ⊗ num (pos 16777216) ⊗ x1) refl
 
-pub quotient_lifted : (m n : ℤ) (a by s d t u : ℕ) → n ≡ shifted m u → u + t + s ≡ a + 24 → d ≡ by → Normal m a → 0 < by → by ≤ 16777215 → s ≤ 32 → s ≤ a + 24 → t ≡ a + 24 - s - 38 → Stands (shifted m a *ℤ pos 16777216) (by * 2 ^ s) n d t
-quotient_lifted m n a by s d t u g v l p q r w h k = let b = shifted_bound m u 38 16777215 p.0 (omega arith) in subst (λ (y : ℕ). Stands (shifted m a *ℤ pos 16777216) (by * 2 ^ s) n y t) (sym l) (record {
-  held = record { positive = q; bound = subst (λ (z : ℤ). nat_abs z ≤ 2 ^ 62) (sym g) (omega arith); wide = large; short = (let e = p.1 in omega arith) };
-  cross = ap (λ (z : ℤ). shifted z t *ℤ pos (by * 2 ^ s)) g
-      ∙ ap (λ (z : ℤ). z *ℤ pos (by * 2 ^ s)) (sym (shifted_add m u t))
-      ∙ quotient_cross m a by s (u + t) v;
-})
+pub quotient_lifted : (m n : ℤ) (a by s d t u : ℕ) → n ≡ shifted m u → u + t + s ≡ a + 24 → d ≡ by → Normal m a → 0 < by → by ≤ 16777215 → s ≤ 32
+    → s ≤ a + 24 → t ≡ a + 24 - s - 38 → Stands (shifted m a *ℤ pos 16777216) (by * 2 ^ s) n d t
+quotient_lifted m n a by s d t u g v l p q r w h k = let b = shifted_bound m u 38 16777215 p.0 (omega arith) in
+    subst (λ (y : ℕ). Stands (shifted m a *ℤ pos 16777216) (by * 2 ^ s) n y t) (sym l) (record {
+      held = record { positive = q; bound = subst (λ (z : ℤ). nat_abs z ≤ 2 ^ 62) (sym g) (omega arith); wide = large; short = (let e = p.1 in omega arith) };
+      cross = ap (λ (z : ℤ). shifted z t *ℤ pos (by * 2 ^ s)) g
+          ∙ ap (λ (z : ℤ). z *ℤ pos (by * 2 ^ s)) (sym (shifted_add m u t))
+          ∙ quotient_cross m a by s (u + t) v;
+    })
   where
     large : 0 < t → 16777216 * by ≤ nat_abs n
     large z = let e : u ≡ 38 = omega arith in let f : n ≡ shifted m 38 = g ∙ ap (shifted m) e in
@@ -144,13 +150,16 @@ module _ (a b : Sliding) (m by : ℤ) (s r : ℕ) (p : stored_as m s ≡ Some a)
       at_marks _ _ 0 (quotient_coarse m _ s (nat_abs by) r _ (let j = x_is in let k = g.0 in omega (arith, ints)) g.0 by_some l
       (by_shift d (r - s - 24) (let k = h.0 in omega arith) (let k = h.1 in omega arith) ∙ ap (λ (y : ℕ). y * 2 ^ (r - s - 24)) d_is))
 
-  pub over_lifted : (t : ℕ) → r ≤ s + 24 → t ≡ s + 24 - r - 38 → Stands (a.units *ℤ pos 16777216) (nat_abs b.units) (to_z w64 ((of_z w64 x * 2 ^ (s + 24 - r - t)) % 2 ^ 64)) d t
+  pub over_lifted : (t : ℕ) → r ≤ s + 24 → t ≡ s + 24 - r - 38
+      → Stands (a.units *ℤ pos 16777216) (nat_abs b.units) (to_z w64 ((of_z w64 x * 2 ^ (s + 24 - r - t)) % 2 ^ 64)) d t
   over_lifted t l j =
       let g = m_normal in let h = by_normal in
-      at_marks _ d t (quotient_lifted m _ s (nat_abs by) r d t (s + 24 - r - t) (plain_part x m (s + 24 - r - t) e g.0 (omega arith)) (omega arith) d_is g by_some h.0 h.1 l j)
+      at_marks _ d t (quotient_lifted m _ s (nat_abs by) r d t (s + 24 - r - t)
+      (plain_part x m (s + 24 - r - t) e g.0 (omega arith)) (omega arith) d_is g by_some h.0 h.1 l j)
 
 -- equal cross products are equal ratios
-same_below : (n n' : ℤ) (d d' : ℕ) (h : 0 < d) (h' : 0 < d') → n *ℤ pos d' ≡ n' *ℤ pos d → grid_below sliding_grid (units_over sliding_grid n d h) ≡ grid_below sliding_grid (units_over sliding_grid n' d' h')
+same_below : (n n' : ℤ) (d d' : ℕ) (h : 0 < d) (h' : 0 < d') → n *ℤ pos d' ≡ n' *ℤ pos d
+    → grid_below sliding_grid (units_over sliding_grid n d h) ≡ grid_below sliding_grid (units_over sliding_grid n' d' h')
 unfolding units_over
 same_below n n' d d' h h' e = below sliding_grid sliding_lawful _ _ (record {
   cross =
@@ -160,19 +169,25 @@ same_below n n' d d' h h' e = below sliding_grid sliding_lawful _ _ (record {
 })
 
 module _ (a b : Sliding) (n : ℤ) (by d t : ℕ) (h : 0 < d) (some : 0 < by) where
-  pub div_pos : b.units ≡ pos by → Stands (a.units *ℤ pos 16777216) by n d t → grid_below sliding_grid (units_over sliding_grid (shifted n t) d h) ≡ quotient_below sliding_model a b
+  pub div_pos : b.units ≡ pos by → Stands (a.units *ℤ pos 16777216) by n d t
+      → grid_below sliding_grid (units_over sliding_grid (shifted n t) d h) ≡ quotient_below sliding_model a b
   div_pos f s = same_below (shifted n t) _ d by h some s.cross ∙ quotient_below_pos sliding_grid sliding_lawful a b by some f
 
-  pub div_neg : b.units ≡ neg_ℤ (pos by) → Stands (neg_ℤ a.units *ℤ pos 16777216) by n d t → grid_below sliding_grid (units_over sliding_grid (shifted n t) d h) ≡ quotient_below sliding_model a b
+  pub div_neg : b.units ≡ neg_ℤ (pos by) → Stands (neg_ℤ a.units *ℤ pos 16777216) by n d t
+      → grid_below sliding_grid (units_over sliding_grid (shifted n t) d h) ≡ quotient_below sliding_model a b
   div_neg f s = same_below (shifted n t) _ d by h some s.cross ∙ quotient_below_neg sliding_grid sliding_lawful a b by some f
 
 -- ---- the negative of what −a times x rounds to
-pub mirror_times : (a : Sliding) (x : Frac) → mirrored sliding_grid (grid_below sliding_grid (grid_value sliding_grid (sliding_grid.minus a) *F x)) ≡ grid_above sliding_grid (grid_value sliding_grid a *F x)
+pub mirror_times : (a : Sliding) (x : Frac)
+    → mirrored sliding_grid (grid_below sliding_grid (grid_value sliding_grid (sliding_grid.minus a) *F x))
+    ≡ grid_above sliding_grid (grid_value sliding_grid a *F x)
 unfolding grid_above neg_F ◌*F◌
 mirror_times a x = ap (mirrored sliding_grid) (below sliding_grid sliding_lawful _ _
     (record { cross = ring (a.units ∷ x.top ∷ pos (16777216 * x.bot) ∷ []) (⊝ x0 ⊗ x1 ⊗ x2) (⊝ (x0 ⊗ x1) ⊗ x2) refl }))
 
-pub mirror_maybe : (a : Sliding) (o : Option Frac) → mirrored sliding_grid (o >>= (λ x. grid_below sliding_grid (grid_value sliding_grid (sliding_grid.minus a) *F x))) ≡ (o >>= (λ x. grid_above sliding_grid (grid_value sliding_grid a *F x)))
+pub mirror_maybe : (a : Sliding) (o : Option Frac)
+    → mirrored sliding_grid (o >>= (λ x. grid_below sliding_grid (grid_value sliding_grid (sliding_grid.minus a) *F x)))
+    ≡ (o >>= (λ x. grid_above sliding_grid (grid_value sliding_grid a *F x)))
 mirror_maybe a None = refl
 mirror_maybe a (Some x) = mirror_times a x
 
@@ -203,5 +218,6 @@ module _ (v : ℤ) (b : nat_abs v ≤ 2 ^ 56) where
   pub outer_fits : SFits w64 (pos 0 -ℤ to_z w64 (of_z w64 (shr_z (to_z w64 (of_z w64 (pos 0 -ℤ to_z w64 (of_z w64 v)))) 256)))
   outer_fits = let p = floor_low (neg_ℤ v) 256 (lit< tt) in let q = floor_next (neg_ℤ v) 256 (lit< tt) in rw inner (omega (arith, ints))
 
-  pub plain_ceil8 : to_z w64 (of_z w64 (pos 0 -ℤ to_z w64 (of_z w64 (shr_z (to_z w64 (of_z w64 (pos 0 -ℤ to_z w64 (of_z w64 v)))) 256)))) ≡ ceiling 65536 (ratio v 16777216 (lit< tt))
+  pub plain_ceil8 : to_z w64 (of_z w64 (pos 0 -ℤ to_z w64 (of_z w64 (shr_z (to_z w64 (of_z w64 (pos 0 -ℤ to_z w64 (of_z w64 v)))) 256))))
+      ≡ ceiling 65536 (ratio v 16777216 (lit< tt))
   plain_ceil8 = to_z-of_z w64 _ outer_fits ∙ ap (λ (z : ℤ). pos 0 -ℤ z) inner ∙ omega (arith, ints) ∙ sym (ceil_value v)

@@ -1,23 +1,23 @@
 -- What the code of rounding gives.
 use Rattle.std.proofs.Common.{◌≡◌, ℕ, zero, suc, ◌+◌, ◌-◌, ◌/◌, ◌*◌, ◌%◌, ◌^◌, ◌<◌, ◌≤◌, ℤ, pos, negsuc, ◌*ℤ◌, neg_ℤ, nat_abs, ◌≤ℤ◌, Some, None, sym, refl, ap, ◌∙◌, subst, [], ◌∷◌, arith, pow_pos, pow-suc, pow-add, div-le_self, mul-le-mul_right, lit<, w64, SFits, to_z, of_z}
-use lib.Signed.{shr_z}
-use Rattle.std.proofs.lemmas.Int.{by_lt_z, to_z-of_z, unsigned_abs-mul}
-use Rattle.std.proofs.Math.Nat.{mul-div_cancel, mul_right_comm}
-use Rattle.sliding.specs.Form.{OnGrid}
-use Rattle.sliding.proofs.Scales.{plain_cut, plain_shl, scale_short}
 use borrow.Author.Differences.{ints}
+use lib.Signed.{shr_z}
+use Rattle.std.proofs.Math.Nat.{mul-div_cancel, mul_right_comm}
+use Rattle.std.proofs.lemmas.Int.{by_lt_z, to_z-of_z, unsigned_abs-mul}
 use Rattle.std.specs.Int.{int_div_euclid}
 use Rattle.exact.proofs.Floors.{floor_greatest, floor_low}
-use Rattle.exact.proofs.Ring.{◌⊗◌, x0, x1, x2}
 use Rattle.exact.proofs.Integers.{neg-*ℤ, ring, ≤ℤ_cancel, ≤ℤ_times, ≤ℤ_trans}
+use Rattle.exact.proofs.Ring.{◌⊗◌, x0, x1, x2}
 use Rattle.kind.proofs.GridRules.{ratio_none_over, ratio_none_under, ratio_some}
 use Rattle.kind.specs.Grid.{grid_below, units_over}
+use Rattle.sliding.proofs.Scales.{plain_cut, plain_shl, scale_short}
 use Rattle.sliding.specs.Cut.{Held, Scale, cut, shifted}
+use Rattle.sliding.specs.Form.{OnGrid}
 use Rattle.sliding.specs.Grid.{sliding_grid}
 use Rattle.sliding.specs.Rules.{found, sliding_lawful}
 use Rattle.sliding.specs.Slides.{cut_low, cut_most, on_cut, shifted_bound}
-use Rattle.sliding.specs.declared.mark.Sliding.{Sliding}
 use Rattle.sliding.specs.Whole as whole
+use Rattle.sliding.specs.declared.mark.Sliding.{Sliding}
 
 -- ---- no mark for what is beyond T
 pub ratio_none : (n : ℤ) (d : ℕ) (h : 0 < d) → 72057589742960640 * d < nat_abs n → None ≡ grid_below sliding_grid (units_over sliding_grid n d h)
@@ -89,21 +89,25 @@ module _ (n : ℤ) (d : ℕ) (h : 0 < d) where
 
   -- a multiple of 2^t
   multiple : (t : ℕ) (j : ℤ) → (shifted j t *ℤ pos d) ≤ℤ shifted n t → shifted j t ≤ℤ shifted q t
-  multiple t j p = ≤ℤ_times j q (2 ^ t) (floor_greatest n d h j (≤ℤ_cancel (j *ℤ pos d) n (2 ^ t) (pow_pos t) (subst (λ (y : ℤ). y ≤ℤ shifted n t) (swap j (pos (2 ^ t)) (pos d)) p)))
+  multiple t j p = ≤ℤ_times j q (2 ^ t) (floor_greatest n d h j (≤ℤ_cancel (j *ℤ pos d) n (2 ^ t) (pow_pos t)
+      (subst (λ (y : ℤ). y ≤ℤ shifted n t) (swap j (pos (2 ^ t)) (pos d)) p)))
 
   shifted_most : (t : ℕ) → (0 < t → 16777216 * d ≤ nat_abs n) → (a : Sliding) → (a.units *ℤ pos d) ≤ℤ shifted n t → a.units ≤ℤ shifted q t
-  shifted_most zero w a p = let e : shifted a.units 0 ≡ a.units = omega (arith, ints) in subst (λ (y : ℤ). y ≤ℤ shifted q 0) e (multiple 0 a.units (subst (λ (y : ℤ). (y *ℤ pos d) ≤ℤ shifted n 0) (sym e) p))
+  shifted_most zero w a p = let e : shifted a.units 0 ≡ a.units = omega (arith, ints) in
+      subst (λ (y : ℤ). y ≤ℤ shifted q 0) e (multiple 0 a.units (subst (λ (y : ℤ). (y *ℤ pos d) ≤ℤ shifted n 0) (sym e) p))
   shifted_most (suc u) w a p = by_lt_z (pos (nat_abs a.units)) (pos (16777216 * 2 ^ u)) (λ l. small (omega (arith, ints))) (λ l. large (omega (arith, ints)))
     where
       large : 16777216 * 2 ^ u ≤ nat_abs a.units → a.units ≤ℤ shifted q (suc u)
       large l = let e = a.on_grid.1 u l in
-          subst (λ (y : ℤ). y ≤ℤ shifted q (suc u)) e (multiple (suc u) (int_div_euclid a.units (pos (2 ^ suc u))) (subst (λ (y : ℤ). (y *ℤ pos d) ≤ℤ shifted n (suc u)) (sym e) p))
+          subst (λ (y : ℤ). y ≤ℤ shifted q (suc u)) e (multiple (suc u) (int_div_euclid a.units (pos (2 ^ suc u)))
+          (subst (λ (y : ℤ). (y *ℤ pos d) ≤ℤ shifted n (suc u)) (sym e) p))
 
       small : nat_abs a.units < 16777216 * 2 ^ u → a.units ≤ℤ shifted q (suc u)
       small l = let v = w (omega arith) in let f = pow-suc 2 u in by_lt_z n (pos 0)
           (λ m.
           let x = ≤ℤ_times n (neg_ℤ (pos 16777216) *ℤ pos d) (2 ^ suc u) (omega (arith, ints)) in
-          let y = ≤ℤ_cancel a.units (shifted (neg_ℤ (pos 16777216)) (suc u)) d h (≤ℤ_trans p (subst (λ (y : ℤ). shifted n (suc u) ≤ℤ y) (swap (neg_ℤ (pos 16777216)) (pos d) (pos (2 ^ suc u))) x)) in
+          let y = ≤ℤ_cancel a.units (shifted (neg_ℤ (pos 16777216)) (suc u)) d h (≤ℤ_trans p
+          (subst (λ (y : ℤ). shifted n (suc u) ≤ℤ y) (swap (neg_ℤ (pos 16777216)) (pos d) (pos (2 ^ suc u))) x)) in
           absurd (omega (arith, ints)))
           (λ m. let x = ≤ℤ_times (pos 16777216) q (2 ^ suc u) (floor_greatest n d h (pos 16777216) (omega (arith, ints))) in omega (arith, ints))
 
@@ -121,7 +125,8 @@ module _ (n : ℤ) (d t m : ℕ) (h : Held n d t) (e : m ≡ 72057589742960640 /
   size = unsigned_abs-mul n (pos (2 ^ t))
 
   pub ratio_beyond : m * d < nat_abs n → None ≡ grid_below sliding_grid (units_over sliding_grid (shifted n t) d h.positive)
-  ratio_beyond l = ratio_none (shifted n t) d h.positive (let w = mul-le-mul_right (2 ^ t) l in let o = pow_pos t in let f = top in let g = size in omega arith)
+  ratio_beyond l = ratio_none (shifted n t) d h.positive
+      (let w = mul-le-mul_right (2 ^ t) l in let o = pow_pos t in let f = top in let g = size in omega arith)
 
   module _ (l : nat_abs n ≤ m * d) where
     abbrev k : ℤ
@@ -138,7 +143,8 @@ module _ (n : ℤ) (d t m : ℕ) (h : Held n d t) (e : m ≡ 72057589742960640 /
         (shifted k t) shifted_small (shifted_low n d h.positive t) (shifted_most n d h.positive t h.wide)
 
     -- by what the code computes
-    pub ratio_within : (x : ℤ) → x ≡ k → whole.below (to_z w64 ((of_z w64 x * 2 ^ t) % 2 ^ 64)) ≡ grid_below sliding_grid (units_over sliding_grid (shifted n t) d h.positive)
+    pub ratio_within : (x : ℤ) → x ≡ k
+        → whole.below (to_z w64 ((of_z w64 x * 2 ^ t) % 2 ^ 64)) ≡ grid_below sliding_grid (units_over sliding_grid (shifted n t) d h.positive)
     ratio_within x g =
         let b = k_small in let c = shifted_small in let i = h.short in
         let j : m ≤ 72057589742960640 = (let f = div-le_self 72057589742960640 (2 ^ t) in omega arith) in

@@ -40,7 +40,8 @@ pub plain_shr : (w : Width) (k : ℤ) (r : ℕ) → SFits w k → to_z w (of_z w
 plain_shr w k r f = rw (to_z-of_z w k f) (to_z-of_z w (shr_z k (2 ^ r)) (record { sfits = lt_of_le_of_lt (mag_shr k (2 ^ r)) f.sfits }) ∙ shr_floor k (2 ^ r))
 
 -- and both, one after the other
-pub plain_cut : (k : ℤ) (s : ℕ) → SFits w64 k → s ≤ 62 → nat_abs (cut k s) < 2 ^ 63 → to_z w64 ((of_z w64 (shr_z (to_z w64 (of_z w64 k)) (2 ^ s)) * 2 ^ s) % 2 ^ 64) ≡ cut k s
+pub plain_cut : (k : ℤ) (s : ℕ) → SFits w64 k → s ≤ 62 → nat_abs (cut k s) < 2 ^ 63
+    → to_z w64 ((of_z w64 (shr_z (to_z w64 (of_z w64 k)) (2 ^ s)) * 2 ^ s) % 2 ^ 64) ≡ cut k s
 plain_cut k s f q b = rw (to_z-of_z w64 k f, shr_floor k (2 ^ s)) (plain_shl (int_div_euclid k (pos (2 ^ s))) s fits q b)
   where
     fits : SFits w64 (int_div_euclid k (pos (2 ^ s)))

@@ -1,11 +1,11 @@
 -- The marks of the sliding kind and their stored forms, both ways.
-use Rattle.std.proofs.Common.{◌≡◌, ℕ, zero, suc, ◌*◌, ◌^◌, ◌≤◌, Bool, true, false, ◌||◌, T, ℤ, pos, ◌*ℤ◌, nat_abs, Some, None, sym, refl, ap, ◌∙◌, arith, pow_pos, pow-suc, le→leb, lt_of_mul-lt-mul_right, le_of_mul-le-mul_right, w32, w64, SFits, to_z, of_z}
-use lib.Signed.{shr_z}
-use Rattle.kind.proofs.Plain.{plain32}
-use borrow.Author.Differences.{ints}
-use Rattle.std.proofs.lemmas.Int.{to_z-of_z, unsigned_abs-mul}
 use Rattle.std.specs.Prelude.{nat_le}
+use Rattle.std.proofs.Common.{◌≡◌, ℕ, zero, suc, ◌*◌, ◌^◌, ◌≤◌, Bool, true, false, ◌||◌, T, ℤ, pos, ◌*ℤ◌, nat_abs, Some, None, sym, refl, ap, ◌∙◌, arith, pow_pos, pow-suc, le→leb, lt_of_mul-lt-mul_right, le_of_mul-le-mul_right, w32, w64, SFits, to_z, of_z}
+use borrow.Author.Differences.{ints}
+use lib.Signed.{shr_z}
+use Rattle.std.proofs.lemmas.Int.{to_z-of_z, unsigned_abs-mul}
 use Rattle.std.specs.Int.{int_div_euclid}
+use Rattle.kind.proofs.Plain.{plain32}
 use Rattle.sliding.proofs.Scales.{plain_shr, scale_is, scale_short}
 use Rattle.sliding.specs.Cut.{Scale, cut, shifted}
 use Rattle.sliding.specs.Form.{Normal, OnGrid}
@@ -62,7 +62,8 @@ sliding_marks = record {
 pub of_stored : (m : ℤ) (s : ℕ) (a : Sliding) → stored_as m s ≡ Some a → Normal m s × (a.units ≡ shifted m s)
 of_stored m s a e = go (normal? m s) (normal_yes m s) (λ h. normal_on m s (normal_yes m s h)) e
   where
-    go : (b : Bool) → (T b → Normal m s) → (h : T b → OnGrid (shifted m s)) → mark_if (shifted m s) b h None ≡ Some a → Normal m s × (a.units ≡ shifted m s)
+    go : (b : Bool) → (T b → Normal m s) → (h : T b → OnGrid (shifted m s)) → mark_if (shifted m s) b h None ≡ Some a
+        → Normal m s × (a.units ≡ shifted m s)
     go true n h f = let g : mark (shifted m s) (h tt) ≡ a = cc in (n tt, ap (λ (x : Sliding). x.units) (sym g))
     go false n h f = absurd (cc)
 
@@ -80,5 +81,6 @@ module _ (a : Sliding) (s : ℕ) (r : Scale (to_z w64 (of_z w64 a.units)) s) whe
   pub is_parts : stored_as (to_z w32 (of_z w32 (to_z w64 (of_z w64 (shr_z (to_z w64 (of_z w64 a.units)) (2 ^ s)))))) s ≡ Some a
   is_parts =
       let n = stored_normal a.units s a.on_grid scale in
-      let e = ap (λ (z : ℤ). to_z w32 (of_z w32 z)) (plain_shr w64 a.units s fits) ∙ plain32 (int_div_euclid a.units (pos (2 ^ s))) (let b = n.0 in omega arith) in
+      let e = ap (λ (z : ℤ). to_z w32 (of_z w32 z)) (plain_shr w64 a.units s fits)
+      ∙ plain32 (int_div_euclid a.units (pos (2 ^ s))) (let b = n.0 in omega arith) in
       ap (λ (z : ℤ). stored_as z s) e ∙ sym (stored_some a (int_div_euclid a.units (pos (2 ^ s))) s n (sym (is_stored a.units s a.on_grid scale)))

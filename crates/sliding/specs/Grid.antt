@@ -16,7 +16,7 @@ abbrev pub mark_if : (k : ℤ) (b : Bool) → (T b → OnGrid k) → Option Slid
 mark_if k true h rest = Some (mark k (h tt))
 mark_if k false h rest = rest
 
-both : (a b : Bool) → T (a && b) → T a × T b
+pub both : (a b : Bool) → T (a && b) → T a × T b
 both true b h = (tt, h)
 both false b h = absurd h
 

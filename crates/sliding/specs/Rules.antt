@@ -11,7 +11,7 @@ use Rattle.kind.specs.Grid.{Lawful, Nearest}
 use Rattle.kind.specs.Model.{Rules}
 use Rattle.sliding.specs.Cut.{Scale, cut}
 use Rattle.sliding.specs.Form.{OnGrid}
-use Rattle.sliding.specs.Grid.{mark, mark_if, short?, short_on, slide, sliding_grid, sliding_model}
+use Rattle.sliding.specs.Grid.{both, mark, mark_if, short?, short_on, slide, sliding_grid, sliding_model}
 use Rattle.sliding.specs.Slides.{cut_low, cut_most}
 use Rattle.sliding.specs.declared.mark.Sliding.{Sliding}
 
@@ -25,10 +25,6 @@ same_mark a b e = λ i. record {
 pub made : (a : Sliding) (k : ℤ) (b : Bool) (h : T b → OnGrid k) (rest : Option Sliding) → T b → a.units ≡ k → Some a ≡ mark_if k b h rest
 made a k true h rest t e = ap Some (same_mark a (mark k (h tt)) e)
 made a k false h rest t e = absurd t
-
-both : (a b : Bool) → T (a && b) → T a × T b
-both true b h = (tt, h)
-both false b h = absurd h
 
 pub from_both : (a b : Bool) → T a → T b → T (a && b)
 from_both true b h k = k
@@ -52,9 +48,12 @@ module _ (k : ℤ) (b : unsigned_abs k ≤ 72057589742960640) where
   search_scale : (f s : ℕ) → f + s ≡ 33 → (0 < s → 8388608 * 2 ^ s ≤ unsigned_abs k) → Found k (slide f s k)
   unfolding slide
   search_scale zero s e w = let p : 2 ^ 33 ≤ 2 ^ s = pow_mono {i = 33} {j = s} (omega arith) in let q = w (omega arith) in absurd (omega arith)
-  search_scale (suc f) s e w = go (short? k s) (short_on k s) (test_short s) (short_test s (omega arith)) (λ p. search_scale f (suc s) (omega arith) (λ h. let q = pow-suc 2 s in omega arith))
+  search_scale (suc f) s e w = go (short? k s) (short_on k s) (test_short s) (short_test s (omega arith))
+      (λ p. search_scale f (suc s) (omega arith) (λ h. let q = pow-suc 2 s in omega arith))
     where
-      go : (c : Bool) (h : T c → OnGrid (cut k s)) → (T c → unsigned_abs k < 16777216 * 2 ^ s) → (unsigned_abs k < 16777216 * 2 ^ s → T c) → (16777216 * 2 ^ s ≤ unsigned_abs k → Found k (slide f (suc s) k)) → Found k (mark_if (cut k s) c h (slide f (suc s) k))
+      go : (c : Bool) (h : T c → OnGrid (cut k s)) → (T c → unsigned_abs k < 16777216 * 2 ^ s) → (unsigned_abs k < 16777216 * 2 ^ s → T c)
+          → (16777216 * 2 ^ s ≤ unsigned_abs k → Found k (slide f (suc s) k))
+          → Found k (mark_if (cut k s) c h (slide f (suc s) k))
       go true h y n rest = record { mark = mark (cut k s) (h tt); is = refl; scale = s; units = refl; right = record { under = y tt; full = w } }
       go false h y n rest = rest (by_lt_z (pos (unsigned_abs k)) (pos (16777216 * 2 ^ s)) (λ l. absurd (n (omega (arith, ints)))) (λ l. omega (arith, ints)))
 

@@ -29,7 +29,10 @@ cut_shifted m s = ap (λ (z : ℤ). shifted z s) (floor_exact m (2 ^ s) (pow_pos
 
 -- ---- m × 2^s of 24 bits is a mark
 pub on_shifted : (m : ℤ) (s : ℕ) → unsigned_abs m ≤ 16777215 → s ≤ 32 → OnGrid (shifted m s)
-on_shifted m s p q = (shifted_bound m s 32 16777215 p q, λ t h. clear t (by_lt_z (pos t) (pos s) (λ l. omega (arith, ints)) (λ l. absurd (long t h (omega (arith, ints))))))
+on_shifted m s p q = (
+  shifted_bound m s 32 16777215 p q,
+  λ t h. clear t (by_lt_z (pos t) (pos s) (λ l. omega (arith, ints)) (λ l. absurd (long t h (omega (arith, ints))))),
+)
   where
     long : (t : ℕ) → 16777216 * 2 ^ t ≤ unsigned_abs (shifted m s) → s ≤ t → ⊥
     long t h l = let b = shifted_bound m s t 16777215 p l in let o = pow_pos t in omega arith
@@ -52,11 +55,14 @@ on_negative k h = let e = abs_negative k in (omega arith, λ s p. clear (suc s) 
         ap (λ (z : ℤ). cut z s) e ∙ cut_shifted (neg_ℤ j) s ∙ sym e
 
 -- ---- a number is cut to a mark
-pub floor_range : (k : ℤ) (s : ℕ) → unsigned_abs k < 16777216 * 2 ^ s → (neg_ℤ (pos 16777216) ≤ℤ int_div_euclid k (pos (2 ^ s))) × (int_div_euclid k (pos (2 ^ s)) ≤ℤ pos 16777215)
+pub floor_range : (k : ℤ) (s : ℕ) → unsigned_abs k < 16777216 * 2 ^ s
+    → (neg_ℤ (pos 16777216) ≤ℤ int_div_euclid k (pos (2 ^ s))) × (int_div_euclid k (pos (2 ^ s)) ≤ℤ pos 16777215)
 floor_range k s u = (
   floor_greatest k (2 ^ s) (pow_pos s) (neg_ℤ (pos 16777216)) (omega (arith, ints)),
   by_lt_z (pos 16777215) (int_div_euclid k (pos (2 ^ s)))
-      (λ h. let a = ≤ℤ_times (pos 16777216) (int_div_euclid k (pos (2 ^ s))) (2 ^ s) (omega (arith, ints)) in let b = floor_low k (2 ^ s) (pow_pos s) in absurd (omega (arith, ints)))
+      (λ h.
+      let a = ≤ℤ_times (pos 16777216) (int_div_euclid k (pos (2 ^ s))) (2 ^ s) (omega (arith, ints)) in
+      let b = floor_low k (2 ^ s) (pow_pos s) in absurd (omega (arith, ints)))
       (λ h. h),
 )
 
@@ -67,7 +73,8 @@ on_cut k s b u l = let r = floor_range k s u in by_lt_z (int_div_euclid k (pos (
   where
     -- −2^24 × 2^s is −2^23 × 2^(s + 1)
     wide : int_div_euclid k (pos (2 ^ s)) ≡ neg_ℤ (pos 16777216) → s < 32 → OnGrid (cut k s)
-    wide e i = subst OnGrid (shifted_suc (neg_ℤ (pos 8388608)) s ∙ ap (λ (z : ℤ). shifted z s) (sym e)) (on_shifted (neg_ℤ (pos 8388608)) (suc s) (omega arith) (omega arith))
+    wide e i = subst OnGrid (shifted_suc (neg_ℤ (pos 8388608)) s ∙ ap (λ (z : ℤ). shifted z s) (sym e))
+        (on_shifted (neg_ℤ (pos 8388608)) (suc s) (omega arith) (omega arith))
 
     low : s ≡ 32 → int_div_euclid k (pos (2 ^ s)) <ℤ neg_ℤ (pos 16777215) → ⊥
     low e h = let f = floor_greatest k (2 ^ s) (pow_pos s) (neg_ℤ (pos 16777215)) (rw e (omega (arith, ints))) in omega (arith, ints)
@@ -85,7 +92,8 @@ cut_most k zero r z g p = let e : shifted z 0 ≡ z = omega (arith, ints) in sub
 cut_most k (suc t) r z g p = by_lt_z (pos (unsigned_abs z)) (pos (16777216 * 2 ^ t)) (λ h. small (omega (arith, ints))) (λ h. large (omega (arith, ints)))
   where
     large : 16777216 * 2 ^ t ≤ unsigned_abs z → z ≤ℤ cut k (suc t)
-    large h = let e = g.1 t h in subst (λ (y : ℤ). y ≤ℤ cut k (suc t)) e (under_cut k (int_div_euclid z (pos (2 ^ suc t))) (suc t) (subst (λ (y : ℤ). y ≤ℤ k) (sym e) p))
+    large h = let e = g.1 t h in subst (λ (y : ℤ). y ≤ℤ cut k (suc t)) e
+        (under_cut k (int_div_euclid z (pos (2 ^ suc t))) (suc t) (subst (λ (y : ℤ). y ≤ℤ k) (sym e) p))
 
     small : unsigned_abs z < 16777216 * 2 ^ t → z ≤ℤ cut k (suc t)
     small h =

@@ -10,14 +10,28 @@ returns-in_err-range g c =
     let q = no_channel g.K.NumberKind.model c.args.b.now c.args.c c.args.n {x = Err _} refl (sym c.in_err-range.was ∙ c.channel_range.ensures) in
     record { answer = e.1 ∙ ap Err e.2 ∙ ap accepts q; records = ap (stored c.args.records.now c.args.n) q }
 
-pub returns-then-c-b : goal.returns-then-c-b
-returns-then-c-b g c =
+pub returns-in_err-put_swept : goal.returns-in_err-put_swept
+returns-in_err-put_swept g c =
+    let b = c.args.b.now in
+    let e = err_from_is_err_and c.from_residual-in_err-put_swept.result c.from_residual-in_err-put_swept.ensures.1 in
+    let x : to_z w32 (of_z w32 b.centre) ≡ b.centre = search rules in
+    let q = the_swept g.K.NumberKind.model b c.args.c c.args.n (sym c.in_ok-range.was ∙ c.channel_range.ensures) x refl c.if-c-b.true in
+    record { answer = e.1 ∙ ap Err e.2 ∙ c.in_err-put_swept.ensures.answer ∙ ap accepts q; records = c.in_err-put_swept.ensures.records ∙ ap (stored c.args.records.now c.args.n) q }
+
+pub returns-in_ok-put_swept : goal.returns-in_ok-put_swept
+returns-in_ok-put_swept g c =
     let b = c.args.b.now in
     let x : to_z w32 (of_z w32 b.centre) ≡ b.centre = search rules in
     let q = the_swept g.K.NumberKind.model b c.args.c c.args.n (sym c.in_ok-range.was ∙ c.channel_range.ensures) x refl c.if-c-b.true in
-    record { answer = c.put_swept.ensures.answer ∙ ap accepts q; records = c.put_swept.ensures.records ∙ ap (stored c.args.records.now c.args.n) q }
+    record { answer = c.in_ok-put_swept.ensures.answer ∙ ap accepts q; records = c.in_ok-put_swept.ensures.records ∙ ap (stored c.args.records.now c.args.n) q }
 
-pub returns-else-c-b : goal.returns-else-c-b
-returns-else-c-b g c =
+pub returns-in_err-put_still : goal.returns-in_err-put_still
+returns-in_err-put_still g c =
+    let e = err_from_is_err_and c.from_residual-in_err-put_still.result c.from_residual-in_err-put_still.ensures.1 in
     let q = another g.K.NumberKind.model c.args.b.now c.args.c c.args.n (sym c.in_ok-range.was ∙ c.channel_range.ensures) refl c.if-c-b.false in
-    record { answer = c.put_still.ensures.answer ∙ ap accepts q; records = c.put_still.ensures.records ∙ ap (stored c.args.records.now c.args.n) q }
+    record { answer = e.1 ∙ ap Err e.2 ∙ c.in_err-put_still.ensures.answer ∙ ap accepts q; records = c.in_err-put_still.ensures.records ∙ ap (stored c.args.records.now c.args.n) q }
+
+pub returns-in_ok-put_still : goal.returns-in_ok-put_still
+returns-in_ok-put_still g c =
+    let q = another g.K.NumberKind.model c.args.b.now c.args.c c.args.n (sym c.in_ok-range.was ∙ c.channel_range.ensures) refl c.if-c-b.false in
+    record { answer = c.in_ok-put_still.ensures.answer ∙ ap accepts q; records = c.in_ok-put_still.ensures.records ∙ ap (stored c.args.records.now c.args.n) q }

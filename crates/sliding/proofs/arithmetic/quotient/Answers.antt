@@ -9,4 +9,5 @@ returns-then-b-lt0 c =
     c.below.ensures ∙ div_neg c.args.a c.args.b _ (nat_abs (neg_ℤ c.args.b.units)) _ _ _ (omega (arith, ints)) (omega (arith, ints)) s
 
 pub returns : goal.returns
-returns c = let p = c.args.b.on_grid.0 in c.below-2.ensures ∙ div_pos c.args.a c.args.b _ _ _ _ _ (omega (arith, ints)) (omega (arith, ints)) c.over-2.ensures
+returns c = let p = c.args.b.on_grid.0 in
+    c.below-2.ensures ∙ div_pos c.args.a c.args.b _ _ _ _ _ (omega (arith, ints)) (omega (arith, ints)) c.over-2.ensures

@@ -10,7 +10,8 @@ pub invariant_of-result : goal.invariant_of-result
 invariant_of-result c =
     let e = c.unsigned_abs-size.ensures.value in
     record {
-      on_grid = subst OnGrid (sym (plain_part c.from.result c.args.mantissa c.args.scale c.from.ensures (omega (arith, ints)) (let l = c.if-scale-gt32.false in omega arith)))
+      on_grid = subst OnGrid (sym (plain_part c.from.result c.args.mantissa c.args.scale c.from.ensures (omega (arith, ints))
+          (let l = c.if-scale-gt32.false in omega arith)))
           (on_shifted c.args.mantissa c.args.scale (omega (arith, ints)) c.if-scale-gt32.false);
     }
 
