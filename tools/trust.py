@@ -62,7 +62,8 @@ def files_of(page, head, column):
 
 
 def check_files(groups):
-    """Each file of specs/ stands in one group, with its lines, and what is to be read names nothing but what is to be read."""
+    """Each file of specs/ stands in one group, with its lines, and what is to be read names nothing but what is to be read, or proofs: of a fact
+    that a definition carries with it."""
     here = {tuple(re.findall(r"crates/(\w+)/specs/(\w+)\.antt", path)[0]) for path in glob.glob("crates/*/specs/*.antt")}
     here = {file for file in here if file[1] != "Lib"}
     place = {}
@@ -83,7 +84,7 @@ def check_files(groups):
                 continue
             if place[file] == "law" and place.get(used) != "law":
                 wrong.append(f"the law's {words(*file)} names {words(*used)}")
-            if TABLES.get(place[file], True) and not TABLES.get(place.get(used), True):
+            if TABLES.get(place[file], True) and not TABLES.get(place.get(used), True) and place.get(used) != "proofs":
                 wrong.append(f"{words(*file)} is to be read, and names {words(*used)}")
 
 
