@@ -12,14 +12,13 @@ ghost use Rattle.slope.specs.Curves.{lift};
 ghost use Rattle.slope.specs.Rules.{given};
 ghost use Rattle.slope.specs.Rules as slope;
 
+use crate::joints::{Difference, Greater, Joint, Lesser, Product, Quotient, Sum};
 use boxes::{ChannelBox, Range, count, range_at};
 use curve::{Curve, Magnitude, Square, lift};
 use fault::{Cause, Fault};
 use kind::NumberKind;
 use line::Line;
-use product::product;
-use quotient::quotient;
-use slope::{Record, branch, difference, greater, lesser, present, still, sum, swept};
+use slope::{Record, branch, present, still, swept};
 use span::Span;
 
 // The record of a range of counts that stays whole.
@@ -67,104 +66,20 @@ fn two<K: NumberKind>(
 
 // Each operation puts its own record into its place, in a function of its own: what one needs on the stack is not set up for another.
 #[inline(never)]
-fn put_sum<K: NumberKind>(
+fn put_joint<K: NumberKind, J: Joint<K>>(
     records: &mut [Record<K>],
     n: usize,
+    joint: J,
     l: usize,
     r: usize,
 ) -> Result<(), Fault>
     requires { n < length records.old }
-    ensures answer { result ≡ accepts (after (rules.two (take n records.old) l r) (λ p. given (length (take n records.old)) (slope.sum K.NumberKind.model p.0 p.1))) }
-    ensures records { records.new ≡ stored records.old n (after (rules.two (take n records.old) l r) (λ p. given (length (take n records.old)) (slope.sum K.NumberKind.model p.0 p.1))) }
+    ensures answer { result ≡ accepts (after (rules.two (take n records.old) l r) (λ p. J.Joint.joined (length (take n records.old)) p.0 p.1)) }
+    ensures records { records.new ≡ stored records.old n (after (rules.two (take n records.old) l r) (λ p. J.Joint.joined (length (take n records.old)) p.0 p.1)) }
 {
     let earlier = &records[..n];
     let (p, q) = two(earlier, l, r)?;
-    records[n] = sum(p, q, n)?;
-    Ok(())
-}
-
-#[inline(never)]
-fn put_difference<K: NumberKind>(
-    records: &mut [Record<K>],
-    n: usize,
-    l: usize,
-    r: usize,
-) -> Result<(), Fault>
-    requires { n < length records.old }
-    ensures answer { result ≡ accepts (after (rules.two (take n records.old) l r) (λ p. given (length (take n records.old)) (slope.difference K.NumberKind.model p.0 p.1))) }
-    ensures records { records.new ≡ stored records.old n (after (rules.two (take n records.old) l r) (λ p. given (length (take n records.old)) (slope.difference K.NumberKind.model p.0 p.1))) }
-{
-    let earlier = &records[..n];
-    let (p, q) = two(earlier, l, r)?;
-    records[n] = difference(p, q, n)?;
-    Ok(())
-}
-
-#[inline(never)]
-fn put_product<K: NumberKind>(
-    records: &mut [Record<K>],
-    n: usize,
-    l: usize,
-    r: usize,
-) -> Result<(), Fault>
-    requires { n < length records.old }
-    ensures answer { result ≡ accepts (after (rules.two (take n records.old) l r) (λ p. given (length (take n records.old)) (slope.product K.NumberKind.model p.0 p.1))) }
-    ensures records { records.new ≡ stored records.old n (after (rules.two (take n records.old) l r) (λ p. given (length (take n records.old)) (slope.product K.NumberKind.model p.0 p.1))) }
-{
-    let earlier = &records[..n];
-    let (p, q) = two(earlier, l, r)?;
-    records[n] = product(p, q, n)?;
-    Ok(())
-}
-
-#[inline(never)]
-fn put_quotient<K: NumberKind>(
-    records: &mut [Record<K>],
-    n: usize,
-    l: usize,
-    r: usize,
-) -> Result<(), Fault>
-    requires { n < length records.old }
-    ensures answer { result ≡ accepts (after (rules.two (take n records.old) l r) (λ p. slope.divided K.NumberKind.model (length (take n records.old)) p.0 p.1)) }
-    ensures records { records.new ≡ stored records.old n (after (rules.two (take n records.old) l r) (λ p. slope.divided K.NumberKind.model (length (take n records.old)) p.0 p.1)) }
-{
-    let earlier = &records[..n];
-    let (p, q) = two(earlier, l, r)?;
-    records[n] = quotient(p, q, n)?;
-    Ok(())
-}
-
-#[inline(never)]
-fn put_greater<K: NumberKind>(
-    records: &mut [Record<K>],
-    n: usize,
-    l: usize,
-    r: usize,
-) -> Result<(), Fault>
-    requires { n < length records.old }
-    ensures answer { result ≡ accepts (after (rules.two (take n records.old) l r) (λ p. Ok (slope.greater K.NumberKind.model p.0 p.1))) }
-    ensures records { records.new ≡ stored records.old n (after (rules.two (take n records.old) l r) (λ p. Ok (slope.greater K.NumberKind.model p.0 p.1))) }
-{
-    let earlier = &records[..n];
-    let (p, q) = two(earlier, l, r)?;
-    records[n] = greater(p, q);
-    Ok(())
-}
-
-#[inline(never)]
-fn put_lesser<K: NumberKind>(
-    records: &mut [Record<K>],
-    n: usize,
-    l: usize,
-    r: usize,
-) -> Result<(), Fault>
-    requires { n < length records.old }
-    ensures answer { result ≡ accepts (after (rules.two (take n records.old) l r) (λ p. Ok (slope.lesser K.NumberKind.model p.0 p.1))) }
-    ensures records { records.new ≡ stored records.old n (after (rules.two (take n records.old) l r) (λ p. Ok (slope.lesser K.NumberKind.model p.0 p.1))) }
-{
-    let earlier = &records[..n];
-    let (p, q) = two(earlier, l, r)?;
-    records[n] = lesser(p, q);
+    records[n] = joint.join(p, q, n)?;
     Ok(())
 }
 
@@ -272,14 +187,14 @@ fn record_steps<K: NumberKind>(
     match line {
         Line::Channel(c) => put_channel(b, records, n, c),
         Line::Constant(k) => put_constant(records, n, k),
-        Line::Sum(l, r) => put_sum(records, n, l, r),
-        Line::Difference(l, r) => put_difference(records, n, l, r),
-        Line::Product(l, r) => put_product(records, n, l, r),
-        Line::Quotient(l, r) => put_quotient(records, n, l, r),
+        Line::Sum(l, r) => put_joint(records, n, Sum, l, r),
+        Line::Difference(l, r) => put_joint(records, n, Difference, l, r),
+        Line::Product(l, r) => put_joint(records, n, Product, l, r),
+        Line::Quotient(l, r) => put_joint(records, n, Quotient, l, r),
         Line::Square(l) => put_curve(records, n, Square, l),
         Line::Magnitude(l) => put_curve(records, n, Magnitude, l),
-        Line::Greater(l, r) => put_greater(records, n, l, r),
-        Line::Lesser(l, r) => put_lesser(records, n, l, r),
+        Line::Greater(l, r) => put_joint(records, n, Greater, l, r),
+        Line::Lesser(l, r) => put_joint(records, n, Lesser, l, r),
         Line::Branch(s, q, r) => put_branch(records, n, s, q, r),
     }
 }
