@@ -173,8 +173,6 @@ fn put_constant<K: NumberKind>(records: &mut [Record<K>], n: usize, k: i64) -> R
     Ok(())
 }
 
-// The operations are told apart three at a time, the common ones first: a jump through a table of all costs some processors more than a sum.
-// Each of these functions serves every line.
 #[inline(never)]
 fn any_step<K: NumberKind>(
     b: &ChannelBox,
@@ -201,8 +199,9 @@ fn any_step<K: NumberKind>(
     }
 }
 
-#[inline(never)]
-fn third_step<K: NumberKind>(
+// The steps of a few operations each; they serve every other line too.
+#[inline(always)]
+fn first_steps<K: NumberKind>(
     b: &ChannelBox,
     records: &mut [Record<K>],
     n: usize,
@@ -213,15 +212,15 @@ fn third_step<K: NumberKind>(
     ensures records { records.new ≡ stored records.old n (rules.rule K.NumberKind.model (box_of b.now) (take n records.old) line) }
 {
     match line {
-        Line::Quotient(l, r) => put_joint(records, n, Quotient, l, r),
-        Line::Greater(l, r) => put_joint(records, n, Greater, l, r),
-        Line::Lesser(l, r) => put_joint(records, n, Lesser, l, r),
+        Line::Channel(c) => put_channel(b, records, n, c),
+        Line::Constant(k) => put_constant(records, n, k),
+        Line::Sum(l, r) => put_joint(records, n, Sum, l, r),
         other => any_step(b, records, n, other),
     }
 }
 
-#[inline(never)]
-fn second_step<K: NumberKind>(
+#[inline(always)]
+fn second_steps<K: NumberKind>(
     b: &ChannelBox,
     records: &mut [Record<K>],
     n: usize,
@@ -232,13 +231,51 @@ fn second_step<K: NumberKind>(
     ensures records { records.new ≡ stored records.old n (rules.rule K.NumberKind.model (box_of b.now) (take n records.old) line) }
 {
     match line {
-        Line::Constant(k) => put_constant(records, n, k),
-        Line::Square(l) => put_curve(records, n, Square, l),
         Line::Difference(l, r) => put_joint(records, n, Difference, l, r),
-        other => third_step(b, records, n, other),
+        Line::Product(l, r) => put_joint(records, n, Product, l, r),
+        Line::Quotient(l, r) => put_joint(records, n, Quotient, l, r),
+        other => any_step(b, records, n, other),
     }
 }
 
+#[inline(always)]
+fn third_steps<K: NumberKind>(
+    b: &ChannelBox,
+    records: &mut [Record<K>],
+    n: usize,
+    line: Line,
+) -> Result<(), Fault>
+    requires { n < length records.old }
+    ensures answer { result ≡ accepts (rules.rule K.NumberKind.model (box_of b.now) (take n records.old) line) }
+    ensures records { records.new ≡ stored records.old n (rules.rule K.NumberKind.model (box_of b.now) (take n records.old) line) }
+{
+    match line {
+        Line::Square(l) => put_curve(records, n, Square, l),
+        Line::Magnitude(l) => put_curve(records, n, Magnitude, l),
+        Line::Greater(l, r) => put_joint(records, n, Greater, l, r),
+        other => any_step(b, records, n, other),
+    }
+}
+
+#[inline(always)]
+fn last_steps<K: NumberKind>(
+    b: &ChannelBox,
+    records: &mut [Record<K>],
+    n: usize,
+    line: Line,
+) -> Result<(), Fault>
+    requires { n < length records.old }
+    ensures answer { result ≡ accepts (rules.rule K.NumberKind.model (box_of b.now) (take n records.old) line) }
+    ensures records { records.new ≡ stored records.old n (rules.rule K.NumberKind.model (box_of b.now) (take n records.old) line) }
+{
+    match line {
+        Line::Lesser(l, r) => put_joint(records, n, Lesser, l, r),
+        Line::Branch(s, q, r) => put_branch(records, n, s, q, r),
+        other => any_step(b, records, n, other),
+    }
+}
+
+// By comparisons of the operation's number, and not by one match: its jump through a table takes some processors longer than a sum does.
 #[inline(always)]
 fn record_steps<K: NumberKind>(
     b: &ChannelBox,
@@ -250,11 +287,15 @@ fn record_steps<K: NumberKind>(
     ensures answer { result ≡ accepts (rules.rule K.NumberKind.model (box_of b.now) (take n records.old) line) }
     ensures records { records.new ≡ stored records.old n (rules.rule K.NumberKind.model (box_of b.now) (take n records.old) line) }
 {
-    match line {
-        Line::Product(l, r) => put_joint(records, n, Product, l, r),
-        Line::Sum(l, r) => put_joint(records, n, Sum, l, r),
-        Line::Channel(c) => put_channel(b, records, n, c),
-        other => second_step(b, records, n, other),
+    let number = line.operation();
+    if number < 3 {
+        first_steps(b, records, n, line)
+    } else if number < 6 {
+        second_steps(b, records, n, line)
+    } else if number < 9 {
+        third_steps(b, records, n, line)
+    } else {
+        last_steps(b, records, n, line)
     }
 }
 
