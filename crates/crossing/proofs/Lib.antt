@@ -4,3 +4,4 @@ pub mod ReadOnce
 pub mod Parsing
 pub mod Reported
 pub mod Window
+pub mod Stands

@@ -2,6 +2,7 @@ pub mod Lines
 pub mod Marks
 pub mod Records
 pub mod Sheets
+pub mod Standing
 pub mod Memory
 pub mod Answers
 pub mod Calls

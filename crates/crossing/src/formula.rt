@@ -1,7 +1,8 @@
 // A formula that is read once for many windows.
-ghost use Rattle.std.specs.Prelude.{◌≡◌, Ok, length};
+ghost use Rattle.std.specs.Prelude.{◌≡◌, ◌≤◌, Ok, length, true};
 ghost use Rattle.std.specs.List.{slice_get};
 ghost use Rattle.boxes.specs.Stored.{box_of};
+ghost use Rattle.crossing.specs.Standing.{Standing};
 ghost use Rattle.crossing.specs.Windows.{report_over};
 ghost use Rattle.fault.specs.Refusals.{found};
 ghost use Rattle.fault.specs.declared.fault.Cause.TheVariants.{NoLine};
@@ -10,6 +11,7 @@ ghost use Rattle.rule.specs.Lent.{lent};
 ghost use Rattle.sheet.specs.Contents.{contents};
 ghost use Rattle.sheet.specs.declared.sheet.Sheet.{Sheet};
 
+use crate::standing::records_over;
 use boxes::ChannelBox;
 use fault::{Cause, Fault};
 use kind::NumberKind;
@@ -42,17 +44,21 @@ fn record_at<'a, K: NumberKind>(
     records.get(line).ok_or(Cause::NoLine.at(line))
 }
 
-// The report of a line of a formula over a box.
+// The report of a line of a formula over a box. The records of constants are not made where they stand.
+#[inline(always)]
 pub(crate) fn report_in<K: NumberKind>(
-    formula: &Sheet,
+    lines: &[Line],
+    standing: bool,
     working: &mut [Record<K>],
     over: &ChannelBox,
     line: usize,
 ) -> Result<Report, Fault>
-    requires { length working.old ≡ 64 }
-    ensures { result ≡ report_over K.NumberKind.model (box_of over.now) (contents formula.now).lines line }
+    requires room { length lines.now ≤ length working.old }
+    requires standing { standing ≡ true → Standing K.NumberKind.model lines.now working.old }
+    ensures value { result ≡ report_over K.NumberKind.model (box_of over.now) lines.now line }
+    ensures standing { standing ≡ true → Standing K.NumberKind.model lines.now working.new }
 {
-    formula.records_over(over, working)?;
-    let record = record_at(&working[..formula.held()], line)?;
+    records_over(lines, standing, over, working)?;
+    let record = record_at(&working[..lines.len()], line)?;
     Ok(report_of(over, record))
 }

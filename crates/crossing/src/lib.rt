@@ -14,6 +14,7 @@ mod plain;
 mod records;
 mod room;
 mod sheets;
+mod standing;
 mod station;
 
 pub use calls::call;

@@ -1,6 +1,7 @@
 // A station's windows.
-ghost use Rattle.std.specs.Prelude.{◌≡◌, length, map, take, drop, min};
+ghost use Rattle.std.specs.Prelude.{◌≡◌, ◌≤◌, length, map, take, drop, min, true};
 ghost use Rattle.crossing.specs.Sheets.{box_in};
+ghost use Rattle.crossing.specs.Standing.{Standing};
 ghost use Rattle.crossing.specs.Windows.{answered_window, report_over, window_answer};
 ghost use Rattle.crossing.specs.Windows as windows;
 ghost use Rattle.fault.specs.Refusals.{after};
@@ -11,7 +12,9 @@ use crate::formula::{formula_of, report_in};
 use crate::marks::Crossing;
 use crate::memory::{CAnswer, CBox};
 use crate::room::Room;
+use crate::standing::constants;
 use fault::{Cause, Fault};
+use line::Line;
 use report::Report;
 use runs::Opening;
 use sheet::Sheet;
@@ -29,16 +32,19 @@ fn told(window: Result<Report, Refused>) -> CAnswer
 
 // The report of a line of a formula that was read.
 fn window_in<K: Crossing>(
-    formula: &Sheet,
+    lines: &[Line],
+    standing: bool,
     working: &mut [Record<K>],
     line: usize,
     over: &CBox,
 ) -> Result<Report, Fault>
-    requires { length working.old ≡ 64 }
-    ensures { result ≡ after (box_in over.now) (λ b. report_over K.NumberKind.model b (contents formula.now).lines line) }
+    requires room { length lines.now ≤ length working.old }
+    requires standing { standing ≡ true → Standing K.NumberKind.model lines.now working.old }
+    ensures value { result ≡ after (box_in over.now) (λ b. report_over K.NumberKind.model b lines.now line) }
+    ensures standing { standing ≡ true → Standing K.NumberKind.model lines.now working.new }
 {
     let over = over.opened()?;
-    report_in(formula, working, &over, line)
+    report_in(lines, standing, working, &over, line)
 }
 
 // The same for bytes that may be no formula.
@@ -67,30 +73,35 @@ fn window_over<K: Crossing>(
 
 // The same as C has it.
 fn answer_in<K: Crossing>(
-    formula: &Sheet,
+    lines: &[Line],
+    standing: bool,
     working: &mut [Record<K>],
     line: usize,
     over: &CBox,
 ) -> CAnswer
-    requires { length working.old ≡ 64 }
-    ensures { result ≡ windows.answer_in K.NumberKind.model (contents formula.now).lines line over.now }
+    requires room { length lines.now ≤ length working.old }
+    requires standing { standing ≡ true → Standing K.NumberKind.model lines.now working.old }
+    ensures value { result ≡ windows.answer_in K.NumberKind.model lines.now line over.now }
+    ensures standing { standing ≡ true → Standing K.NumberKind.model lines.now working.new }
 {
-    reported(window_in(formula, working, line, over))
+    reported(window_in(lines, standing, working, line, over))
 }
 
+// The records of the constants are made once for all windows, unless one is refused.
 fn windows_in<K: Crossing>(
-    formula: &Sheet,
+    lines: &[Line],
     working: &mut [Record<K>],
     line: usize,
     boxes: &[CBox],
     answers: &mut [CAnswer],
 )
-    requires working { length working.old ≡ 64 }
+    requires working { length lines.now ≤ length working.old }
     requires room { length answers.old ≡ length boxes.now }
-    ensures { answers.new ≡ map (windows.answer_in K.NumberKind.model (contents formula.now).lines line) boxes.now }
+    ensures { answers.new ≡ map (windows.answer_in K.NumberKind.model lines.now line) boxes.now }
 {
+    let standing = constants(lines, working).is_ok();
     for i in 0..boxes.len() {
-        answers[i] = answer_in(formula, working, line, &boxes[i]);
+        answers[i] = answer_in(lines, standing, working, line, &boxes[i]);
     }
 }
 
@@ -127,7 +138,7 @@ pub fn windows<K: Crossing>(
     let windows = boxes.len().min(answers.len());
     match formula_of(bytes) {
         Ok(formula) => windows_in(
-            &formula,
+            formula.lines(),
             &mut room.working,
             line,
             &boxes[..windows],
