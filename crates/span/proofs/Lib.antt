@@ -9,3 +9,4 @@ pub mod Nested
 pub mod Lawful
 pub mod Agreed
 pub mod Zero
+pub mod Points

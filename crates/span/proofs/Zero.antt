@@ -10,12 +10,12 @@ use Rattle.span.specs.Spans.{corners, difference, ends, from_zero, is_nought, is
 use Rattle.span.specs.declared.span.Span.{Span}
 
 -- what both branches are
-either : {X : Type 0} (b : Bool) (x y z : X) → x ≡ z → y ≡ z → cond b x y ≡ z
+pub either : {X : Type 0} (b : Bool) (x y z : X) → x ≡ z → y ≡ z → cond b x y ≡ z
 either true x y z e f = e
 either false x y z e f = f
 
 module _ {K : Type 0} (m : Model K) (rules : Rules m) where
-  is_nought_is : (a : K) → is_nought m a ≡ true → a ≡ m.nought
+  pub is_nought_is : (a : K) → is_nought m a ≡ true → a ≡ m.nought
   is_nought_is a e = let p = and_parts _ _ e in rules.distinct _ _ (≤F_antisym (le_F_yes _ _ p.0) (le_F_yes _ _ p.1))
 
   pub is_zero_is : (s : Span K) → is_zero m s ≡ true → s ≡ zero_span m
@@ -25,7 +25,7 @@ module _ {K : Type 0} (m : Model K) (rules : Rules m) where
   nought_times : (x : Frac) → (m.value m.nought *F x) ≈ m.value m.nought
   nought_times x = ≈_trans (*-cong rules.nought_is (≈_refl x)) (≈_trans (F_zero_mul x) (≈_sym rules.nought_is))
 
-  times_nought : (x : Frac) → (x *F m.value m.nought) ≈ m.value m.nought
+  pub times_nought : (x : Frac) → (x *F m.value m.nought) ≈ m.value m.nought
   times_nought x = ≈_trans (F_mul_comm _ _) (nought_times x)
 
   nought_plus : (x : Frac) → (m.value m.nought +F x) ≈ x

@@ -48,6 +48,10 @@ module _ {K : Type 0} (m : Model K) where
   abbrev pub is_zero : Span K → Bool
   is_zero s = is_nought s.lower && is_nought s.upper
 
+  -- k where the span is [k]
+  abbrev pub sole : Span K → Option K
+  sole s = cond (at_most m s.upper s.lower && at_most m s.lower s.upper) (Some s.lower) None
+
   -- s's lower end is not below t's upper end
   abbrev pub clears : Span K → Span K → Bool
   clears s t = at_most m t.upper s.lower

@@ -61,6 +61,18 @@ impl<K: NumberKind> Span<K> {
         is_nought(self.lower) && is_nought(self.upper)
     }
 
+    // The mark k, where the span is [k].
+    #[inline(always)]
+    pub fn sole(self) -> Option<K>
+        ensures { result ≡ spans.sole K.NumberKind.model self }
+    {
+        if self.upper.at_most(self.lower) && self.lower.at_most(self.upper) {
+            Some(self.lower)
+        } else {
+            None
+        }
+    }
+
     // Whether the lower end is not below the other's upper end.
     pub fn clears(self, other: Span<K>) -> bool
         ensures { result ≡ spans.clears K.NumberKind.model self other }

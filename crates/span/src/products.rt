@@ -69,4 +69,17 @@ impl<K: NumberKind> Span<K> {
             product_across(self, other)
         }
     }
+
+    // The product with [k], on either side: its sign alone tells which end is which.
+    #[inline(always)]
+    pub fn scaled(self, k: K) -> Option<Span<K>>
+        ensures right { result ≡ spans.product K.NumberKind.model self (spans.point K.NumberKind.model k) }
+        ensures left { result ≡ spans.product K.NumberKind.model (spans.point K.NumberKind.model k) self }
+    {
+        if from_zero(k) {
+            corners(self.lower, k, self.upper, k)
+        } else {
+            corners(self.upper, k, self.lower, k)
+        }
+    }
 }
