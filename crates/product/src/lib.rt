@@ -30,7 +30,7 @@ fn scaled<K: NumberKind>(base: Base<K>, x: &Slopes<K>, y: &Slopes<K>) -> Record<
     base.sloped(Slopes { a, b, c })
 }
 
-// A = Au × V0 + U × Av; B = Bu × V0 + U0 × Bv; C = Cu × V0 + U × Cv + Au × Bv
+// A = Au × V0 + U × Av; B = Bu × V0 + U0 × Bv; C = Cu × V0 + U × Cv + Au × Bv, of two straight lines Au × Bv alone
 #[inline(always)]
 fn whole_rule<K: NumberKind>(base: Base<K>, p: &Record<K>, q: &Record<K>) -> Record<K>
     ensures { result ≡ rec base.u base.u0 (rules.product_slopes K.NumberKind.model p.now q.now) }
@@ -59,6 +59,12 @@ fn whole_rule<K: NumberKind>(base: Base<K>, p: &Record<K>, q: &Record<K>) -> Rec
     let Some(b) = b1.sum(b2) else {
         return base.flat();
     };
+    if s.c.is_zero() && t.c.is_zero() {
+        let Some(c) = s.a.product(t.b) else {
+            return base.flat();
+        };
+        return base.sloped(Slopes { a, b, c });
+    }
     let Some(c1) = s.c.product(q.u0) else {
         return base.flat();
     };
