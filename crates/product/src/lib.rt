@@ -1,6 +1,8 @@
 // The product of two records, by a chain of `let .. else`, as this project has its slope rules.
 #![tactic(auto)]
 
+mod constants;
+
 ghost use Rattle.std.specs.Prelude.{◌≡◌};
 ghost use Rattle.slope.specs.Rules.{given, rec};
 ghost use Rattle.exact.specs.Fraction.{◌*F◌};
@@ -10,6 +12,7 @@ ghost use Rattle.slope.specs.Rules as rules;
 ghost use Rattle.slope.specs.Truth.{Kept};
 ghost use Rattle.span.specs.Spans as spans;
 
+use constants::{by_constant, constant};
 use fault::Fault;
 use kind::NumberKind;
 use slope::{Base, Record, Slopes, present};
@@ -148,6 +151,12 @@ pub fn product<K: NumberKind>(
     ensures value { result ≡ given place (rules.product K.NumberKind.model p.now q.now) }
     ensures truth { Kept K.NumberKind.model ◌*F◌ (spans.product K.NumberKind.model p.now.u q.now.u) p.now q.now result }
 {
+    if let Some(k) = constant(q) {
+        return by_constant(p, k, place);
+    }
+    if let Some(k) = constant(p) {
+        return by_constant(q, k, place);
+    }
     let u = present(p.u.product(q.u), place)?;
     let u0 = present(p.u0.product(q.u0), place)?;
     Ok(product_slopes(Base { u, u0 }, p, q))
