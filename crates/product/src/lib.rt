@@ -1,17 +1,22 @@
 // The product of two records, by a chain of `let .. else`, as this project has its slope rules.
 #![tactic(auto)]
 
+mod constants;
+
 ghost use Rattle.std.specs.Prelude.{◌≡◌};
 ghost use Rattle.slope.specs.Rules.{given, rec};
 ghost use Rattle.exact.specs.Fraction.{◌*F◌};
+ghost use Rattle.product.specs.Bent.{bent_slopes};
 ghost use Rattle.product.specs.Scaled.{scaled};
 ghost use Rattle.slope.specs.Rules as rules;
 ghost use Rattle.slope.specs.Truth.{Kept};
 ghost use Rattle.span.specs.Spans as spans;
 
+use constants::{by_constant, constant};
 use fault::Fault;
 use kind::NumberKind;
 use slope::{Base, Record, Slopes, present};
+use span::Span;
 
 // x × y part by part, or no slopes
 #[inline(always)]
@@ -30,7 +35,48 @@ fn scaled<K: NumberKind>(base: Base<K>, x: &Slopes<K>, y: &Slopes<K>) -> Record<
     base.sloped(Slopes { a, b, c })
 }
 
-// A = Au × V0 + U × Av; B = Bu × V0 + U0 × Bv; C = Cu × V0 + U × Cv + Au × Bv
+// C = Cu × V0 + U × Cv + Au × Bv, of two straight lines Au × Bv alone, beside A and B
+#[inline(always)]
+fn bent<K: NumberKind>(
+    base: Base<K>,
+    a: Span<K>,
+    b: Span<K>,
+    p: &Record<K>,
+    q: &Record<K>,
+) -> Record<K>
+    ensures { result ≡ rec base.u base.u0 (bent_slopes K.NumberKind.model a b p.now q.now) }
+{
+    let Some(s) = &p.slopes else {
+        return base.flat();
+    };
+    let Some(t) = &q.slopes else {
+        return base.flat();
+    };
+    if s.c.is_zero() && t.c.is_zero() {
+        let Some(c) = s.a.product(t.b) else {
+            return base.flat();
+        };
+        return base.sloped(Slopes { a, b, c });
+    }
+    let Some(c1) = s.c.product(q.u0) else {
+        return base.flat();
+    };
+    let Some(c2) = p.u.product(t.c) else {
+        return base.flat();
+    };
+    let Some(c12) = c1.sum(c2) else {
+        return base.flat();
+    };
+    let Some(c3) = s.a.product(t.b) else {
+        return base.flat();
+    };
+    let Some(c) = c12.sum(c3) else {
+        return base.flat();
+    };
+    base.sloped(Slopes { a, b, c })
+}
+
+// A = Au × V0 + U × Av; B = Bu × V0 + U0 × Bv; and C
 #[inline(always)]
 fn whole_rule<K: NumberKind>(base: Base<K>, p: &Record<K>, q: &Record<K>) -> Record<K>
     ensures { result ≡ rec base.u base.u0 (rules.product_slopes K.NumberKind.model p.now q.now) }
@@ -59,22 +105,7 @@ fn whole_rule<K: NumberKind>(base: Base<K>, p: &Record<K>, q: &Record<K>) -> Rec
     let Some(b) = b1.sum(b2) else {
         return base.flat();
     };
-    let Some(c1) = s.c.product(q.u0) else {
-        return base.flat();
-    };
-    let Some(c2) = p.u.product(t.c) else {
-        return base.flat();
-    };
-    let Some(c12) = c1.sum(c2) else {
-        return base.flat();
-    };
-    let Some(c3) = s.a.product(t.b) else {
-        return base.flat();
-    };
-    let Some(c) = c12.sum(c3) else {
-        return base.flat();
-    };
-    base.sloped(Slopes { a, b, c })
+    bent(base, a, b, p, q)
 }
 
 // The rule without the products by [0] of an operand that stands still.
@@ -120,6 +151,12 @@ pub fn product<K: NumberKind>(
     ensures value { result ≡ given place (rules.product K.NumberKind.model p.now q.now) }
     ensures truth { Kept K.NumberKind.model ◌*F◌ (spans.product K.NumberKind.model p.now.u q.now.u) p.now q.now result }
 {
+    if let Some(k) = constant(q) {
+        return by_constant(p, k, place);
+    }
+    if let Some(k) = constant(p) {
+        return by_constant(q, k, place);
+    }
     let u = present(p.u.product(q.u), place)?;
     let u0 = present(p.u0.product(q.u0), place)?;
     Ok(product_slopes(Base { u, u0 }, p, q))
