@@ -4,6 +4,7 @@ ghost use Rattle.exact.specs.Fraction.{Frac};
 ghost use Rattle.slope.specs.declared.record.Shape.{Shape};
 ghost use Rattle.span.specs.declared.span.Span.{Span};
 ghost use Rattle.slope.specs.Curves.{Bends, Curved};
+ghost use Rattle.curve.specs.Straight.{bent};
 ghost use Rattle.slope.specs.Curves as curves;
 ghost use Rattle.slope.specs.Rules.{given, rec};
 
@@ -30,7 +31,36 @@ pub trait Curve<K: NumberKind>: Copy {
     ghost bends: { Bends K.NumberKind.model exact image bend };
 }
 
-// A = G × Au; B = E × Bu; C = G × Cu + (K × Au) × Bu
+// A = G × Au; B = E × Bu; C = G × Cu + (K × Au) × Bu. Where Cu = [0], as of a straight line, C is its second term alone.
+#[inline(always)]
+fn bent<K: NumberKind>(base: Base<K>, f: &Shape<K>, s: &Slopes<K>) -> Record<K>
+    ensures { result ≡ rec base.u base.u0 (bent K.NumberKind.model f.now s.now) }
+{
+    let Some(a) = f.g.product(s.a) else {
+        return base.flat();
+    };
+    let Some(b) = f.e.product(s.b) else {
+        return base.flat();
+    };
+    let Some(c1) = f.k.product(s.a) else {
+        return base.flat();
+    };
+    let Some(c2) = c1.product(s.b) else {
+        return base.flat();
+    };
+    if s.c.is_zero() {
+        return base.sloped(Slopes { a, b, c: c2 });
+    }
+    let Some(c3) = f.g.product(s.c) else {
+        return base.flat();
+    };
+    let Some(c) = c3.sum(c2) else {
+        return base.flat();
+    };
+    base.sloped(Slopes { a, b, c })
+}
+
+// The rule without what [0] adds.
 #[inline(always)]
 fn lift_slopes<K: NumberKind>(base: Base<K>, f: &Shape<K>, p: &Record<K>) -> Record<K>
     ensures { result ≡ rec base.u base.u0 (curves.lift_slopes K.NumberKind.model f.now p.now.slopes) }
@@ -41,25 +71,7 @@ fn lift_slopes<K: NumberKind>(base: Base<K>, f: &Shape<K>, p: &Record<K>) -> Rec
     if s.is_still() {
         return base.sloped(*s);
     }
-    let Some(a) = f.g.product(s.a) else {
-        return base.flat();
-    };
-    let Some(b) = f.e.product(s.b) else {
-        return base.flat();
-    };
-    let Some(c1) = f.g.product(s.c) else {
-        return base.flat();
-    };
-    let Some(c2) = f.k.product(s.a) else {
-        return base.flat();
-    };
-    let Some(c3) = c2.product(s.b) else {
-        return base.flat();
-    };
-    let Some(c) = c1.sum(c3) else {
-        return base.flat();
-    };
-    base.sloped(Slopes { a, b, c })
+    bent(base, f, s)
 }
 
 // The record of a curve's value.
