@@ -2,12 +2,13 @@
 use Rattle.std.proofs.Common.{◌≡◌, Bool, true, false, cond, Some, None, Option, refl, sym, ◌∙◌}
 use Rattle.exact.specs.Optional.{◌>>=◌}
 use Rattle.kind.specs.Model.{Model, Rules}
-use Rattle.curve.specs.Straight.{bent}
+use Rattle.curve.specs.Straight.{bent, scaled}
 use Rattle.slope.specs.Curves.{lift_slopes}
 use Rattle.slope.specs.Rules.{three}
 use Rattle.slope.specs.declared.record.Shape.{Shape}
 use Rattle.slope.specs.declared.record.Slopes.{Slopes}
-use Rattle.span.proofs.Zero.{is_zero_is, product_zero, zero_sum}
+use Rattle.span.proofs.Points.{sole_is}
+use Rattle.span.proofs.Zero.{is_zero_is, product_zero, sum_zero, zero_product, zero_sum}
 use Rattle.span.specs.declared.span.Span.{Span}
 use Rattle.span.specs.Spans as spans
 
@@ -45,3 +46,9 @@ module _ {K : Type 0} (m : Model K) (rules : Rules m) (f : Shape K) (s : Slopes 
       alike (spans.product m f.k s.a) _ _ (λ c2.
       alike (spans.product m c2 s.b) _ _ (nothing_added a b) ∙ exchanged (spans.product m c2 s.b) (spans.product m f.g s.c) _)
       ∙ exchanged (spans.product m f.k s.a) (spans.product m f.g s.c) _))
+
+module _ {K : Type 0} (m : Model K) (rules : Rules m) (f : Shape K) (s : Slopes K) (g e : K) where
+  -- K × Au × Bu is [0] and adds nothing
+  pub scaled_is : spans.is_zero m f.k ≡ true → spans.sole m f.g ≡ Some g → spans.sole m f.e ≡ Some e → scaled m g e s ≡ lift_slopes m f (Some s)
+  scaled_is hk hg he = rw (is_zero_is m rules f.k hk, sole_is m rules f.g g hg, sole_is m rules f.e e he)
+      (simp (zero_product m rules, sum_zero m rules))

@@ -4,7 +4,7 @@ ghost use Rattle.exact.specs.Fraction.{Frac};
 ghost use Rattle.slope.specs.declared.record.Shape.{Shape};
 ghost use Rattle.span.specs.declared.span.Span.{Span};
 ghost use Rattle.slope.specs.Curves.{Bends, Curved};
-ghost use Rattle.curve.specs.Straight.{bent};
+ghost use Rattle.curve.specs.Straight.{bent, scaled};
 ghost use Rattle.slope.specs.Curves as curves;
 ghost use Rattle.slope.specs.Rules.{given, rec};
 
@@ -60,6 +60,23 @@ fn bent<K: NumberKind>(base: Base<K>, f: &Shape<K>, s: &Slopes<K>) -> Record<K>
     base.sloped(Slopes { a, b, c })
 }
 
+// A = g × Au; B = e × Bu; C = g × Cu: the curve has K = [0], G = [g] and E = [e], as the magnitude of what lies on one side of 0.
+#[inline(always)]
+fn scaled<K: NumberKind>(base: Base<K>, g: K, e: K, s: &Slopes<K>) -> Record<K>
+    ensures { result ≡ rec base.u base.u0 (scaled K.NumberKind.model g e s.now) }
+{
+    let Some(a) = s.a.scaled(g) else {
+        return base.flat();
+    };
+    let Some(b) = s.b.scaled(e) else {
+        return base.flat();
+    };
+    let Some(c) = s.c.scaled(g) else {
+        return base.flat();
+    };
+    base.sloped(Slopes { a, b, c })
+}
+
 // The rule without what [0] adds.
 #[inline(always)]
 fn lift_slopes<K: NumberKind>(base: Base<K>, f: &Shape<K>, p: &Record<K>) -> Record<K>
@@ -70,6 +87,12 @@ fn lift_slopes<K: NumberKind>(base: Base<K>, f: &Shape<K>, p: &Record<K>) -> Rec
     };
     if s.is_still() {
         return base.sloped(*s);
+    }
+    if f.k.is_zero()
+        && let Some(g) = f.g.sole()
+        && let Some(e) = f.e.sole()
+    {
+        return scaled(base, g, e, s);
     }
     bent(base, f, s)
 }
