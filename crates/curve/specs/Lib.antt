@@ -1,2 +1,3 @@
 pub mod MagnitudeBends
 pub mod SquareBends
+pub mod Straight

@@ -4,6 +4,7 @@ ghost use Rattle.exact.specs.Fraction.{Frac};
 ghost use Rattle.slope.specs.declared.record.Shape.{Shape};
 ghost use Rattle.span.specs.declared.span.Span.{Span};
 ghost use Rattle.slope.specs.Curves.{Bends, Curved};
+ghost use Rattle.curve.specs.Straight.{bent, scaled};
 ghost use Rattle.slope.specs.Curves as curves;
 ghost use Rattle.slope.specs.Rules.{given, rec};
 
@@ -30,7 +31,53 @@ pub trait Curve<K: NumberKind>: Copy {
     ghost bends: { Bends K.NumberKind.model exact image bend };
 }
 
-// A = G × Au; B = E × Bu; C = G × Cu + (K × Au) × Bu
+// A = G × Au; B = E × Bu; C = G × Cu + (K × Au) × Bu. Where Cu = [0], as of a straight line, C is its second term alone.
+#[inline(always)]
+fn bent<K: NumberKind>(base: Base<K>, f: &Shape<K>, s: &Slopes<K>) -> Record<K>
+    ensures { result ≡ rec base.u base.u0 (bent K.NumberKind.model f.now s.now) }
+{
+    let Some(a) = f.g.product(s.a) else {
+        return base.flat();
+    };
+    let Some(b) = f.e.product(s.b) else {
+        return base.flat();
+    };
+    let Some(c1) = f.k.product(s.a) else {
+        return base.flat();
+    };
+    let Some(c2) = c1.product(s.b) else {
+        return base.flat();
+    };
+    if s.c.is_zero() {
+        return base.sloped(Slopes { a, b, c: c2 });
+    }
+    let Some(c3) = f.g.product(s.c) else {
+        return base.flat();
+    };
+    let Some(c) = c3.sum(c2) else {
+        return base.flat();
+    };
+    base.sloped(Slopes { a, b, c })
+}
+
+// A = g × Au; B = e × Bu; C = g × Cu: the curve has K = [0], G = [g] and E = [e], as the magnitude of what lies on one side of 0.
+#[inline(always)]
+fn scaled<K: NumberKind>(base: Base<K>, g: K, e: K, s: &Slopes<K>) -> Record<K>
+    ensures { result ≡ rec base.u base.u0 (scaled K.NumberKind.model g e s.now) }
+{
+    let Some(a) = s.a.scaled(g) else {
+        return base.flat();
+    };
+    let Some(b) = s.b.scaled(e) else {
+        return base.flat();
+    };
+    let Some(c) = s.c.scaled(g) else {
+        return base.flat();
+    };
+    base.sloped(Slopes { a, b, c })
+}
+
+// The rule without what [0] adds.
 #[inline(always)]
 fn lift_slopes<K: NumberKind>(base: Base<K>, f: &Shape<K>, p: &Record<K>) -> Record<K>
     ensures { result ≡ rec base.u base.u0 (curves.lift_slopes K.NumberKind.model f.now p.now.slopes) }
@@ -41,25 +88,13 @@ fn lift_slopes<K: NumberKind>(base: Base<K>, f: &Shape<K>, p: &Record<K>) -> Rec
     if s.is_still() {
         return base.sloped(*s);
     }
-    let Some(a) = f.g.product(s.a) else {
-        return base.flat();
-    };
-    let Some(b) = f.e.product(s.b) else {
-        return base.flat();
-    };
-    let Some(c1) = f.g.product(s.c) else {
-        return base.flat();
-    };
-    let Some(c2) = f.k.product(s.a) else {
-        return base.flat();
-    };
-    let Some(c3) = c2.product(s.b) else {
-        return base.flat();
-    };
-    let Some(c) = c1.sum(c3) else {
-        return base.flat();
-    };
-    base.sloped(Slopes { a, b, c })
+    if f.k.is_zero()
+        && let Some(g) = f.g.sole()
+        && let Some(e) = f.e.sole()
+    {
+        return scaled(base, g, e, s);
+    }
+    bent(base, f, s)
 }
 
 // The record of a curve's value.
