@@ -1,12 +1,12 @@
 -- What the code computes in 64 bits, as ratios of counts.
-use Rattle.std.proofs.Common.{◌≡◌, ℕ, ◌*◌, ◌<◌, ◌≤◌, [], ◌∷◌, ℤ, pos, negsuc, ◌+ℤ◌, ◌*ℤ◌, neg_ℤ, nat_abs, ◌≤ℤ◌, ◌<ℤ◌, Some, None, w32, w64, to_z, of_z, sym, refl, ap, ◌∙◌, subst, arith, lit<}
+use Rattle.std.proofs.Common.{◌≡◌, ℕ, ◌*◌, ◌^◌, ◌<◌, ◌≤◌, [], ◌∷◌, ℤ, pos, negsuc, ◌+ℤ◌, ◌-ℤ◌, ◌*ℤ◌, neg_ℤ, nat_abs, ◌≤ℤ◌, ◌<ℤ◌, Some, None, w32, w64, to_z, of_z, sym, refl, ap, ◌∙◌, subst, arith, lit<}
 use borrow.Author.Differences.{ints}
 use lib.IntN.{neg_ℤ-neg_ℤ}
 use lib.Signed.{le_z, shr_z}
 use Rattle.std.proofs.lemmas.Int.{to_z-of_z}
 use Rattle.std.specs.Int.{int_div_euclid}
 use Rattle.exact.proofs.Floors.{floor_between, floor_exact, floor_greatest, floor_low}
-use Rattle.exact.proofs.Integers.{leZ_times, ring, ≤ℤ_cancel, ≤ℤ_trans}
+use Rattle.exact.proofs.Integers.{leZ_times, ring, ≤ℤ_cancel, ≤ℤ_times, ≤ℤ_trans}
 use Rattle.exact.proofs.Ring.{num, x0, x1, ◌⊗◌, ◌⊕◌}
 use Rattle.exact.specs.Floor.{ceiling, floor}
 use Rattle.exact.specs.Fraction.{◌≈◌, le_F, neg_F}
@@ -43,6 +43,28 @@ pub floor_at : (n q : ℤ) (d : ℕ) → 0 < d → (q *ℤ pos d) ≤ℤ n → n
 floor_at n q d h low high =
     let next : (q +ℤ pos 1) *ℤ pos d ≡ q *ℤ pos d +ℤ pos d = ring (q ∷ pos d ∷ []) ((x0 ⊕ num (pos 1)) ⊗ x1) (x0 ⊗ x1 ⊕ x1) refl in
     sym (floor_between n q d h low (rw next high))
+
+-- the sign of r, shifted through a word, is 0 or −1
+pub sign_shifted : (r : ℤ) (d : ℕ) → d < 2 ^ 32 → neg_ℤ (pos d) ≤ℤ r → r <ℤ pos d → (negsuc 0 ≤ℤ shr_z r (2 ^ 63)) × (shr_z r (2 ^ 63) ≤ℤ pos 0)
+sign_shifted (pos a) d w low high = (omega (arith, ints), omega (arith, ints))
+sign_shifted (negsuc a) d w low high = (omega (arith, ints), omega (arith, ints))
+
+-- Where the rest r of q is from −d to below d, the floor is q or one less, as the sign of r says, ..
+pub floor_near : (n q r : ℤ) (d : ℕ) → 0 < d → d < 2 ^ 32 → r ≡ n -ℤ (q *ℤ pos d) → neg_ℤ (pos d) ≤ℤ r → r <ℤ pos d → q +ℤ shr_z r (2 ^ 63) ≡ int_div_euclid n (pos d)
+floor_near n q (pos a) d h w e low high =
+    let z : q +ℤ shr_z (pos a) (2 ^ 63) ≡ q = omega (arith, ints) in
+    z ∙ floor_at n q d h (omega (arith, ints)) (omega (arith, ints))
+floor_near n q (negsuc a) d h w e low high =
+    let z : q +ℤ shr_z (negsuc a) (2 ^ 63) ≡ q +ℤ negsuc 0 = omega (arith, ints) in
+    let p : (q +ℤ negsuc 0) *ℤ pos d ≡ q *ℤ pos d +ℤ negsuc 0 *ℤ pos d = ring (q ∷ pos d ∷ []) ((x0 ⊕ num (negsuc 0)) ⊗ x1) (x0 ⊗ x1 ⊕ num (negsuc 0) ⊗ x1) refl in
+    z ∙ floor_at n (q +ℤ negsuc 0) d h (omega (arith, ints)) (omega (arith, ints))
+
+-- .. and n / d is not above the top, if q is below it
+pub near_high : (n q r : ℤ) (d : ℕ) → q <ℤ pos 1073741823 → r ≡ n -ℤ (q *ℤ pos d) → r <ℤ pos d → n ≤ℤ (pos 1073741823 *ℤ pos d)
+near_high n q r d t e high =
+    let next : (q +ℤ pos 1) *ℤ pos d ≡ q *ℤ pos d +ℤ pos d = ring (q ∷ pos d ∷ []) ((x0 ⊕ num (pos 1)) ⊗ x1) (x0 ⊗ x1 ⊕ x1) refl in
+    let k : ((q +ℤ pos 1) *ℤ pos d) ≤ℤ (pos 1073741823 *ℤ pos d) = ≤ℤ_times (q +ℤ pos 1) (pos 1073741823) d (omega (arith, ints)) in
+    omega (arith, ints)
 
 -- at the number that is meant
 module _ (z n : ℤ) (d : ℕ) (g h : 0 < d) (e : z ≡ n) where

@@ -1,6 +1,5 @@
 // The exact product and the exact quotient of two marks, and their rounding to marks in 64 bits.
-ghost use Rattle.std.specs.Prelude.{◌≡◌, ◌^◌, ◌<◌, ◌≤◌, pos, ◌*ℤ◌, unsigned_abs};
-ghost use Rattle.std.specs.Int.{int_div_euclid};
+ghost use Rattle.std.specs.Prelude.{◌≡◌, ◌^◌, ◌<◌, ◌≤◌, unsigned_abs};
 
 use crate::mark::Fixed;
 use std::num::f64_to_bits_with_nan;
@@ -52,48 +51,48 @@ pub struct Ratio {
 impl Ratio {
     ghost use Rattle.fixed.specs.Ratios as ratios;
 
-    // A guess at `floor`, by 64-bit floats, which divide faster than 64-bit integers. Only its size is promised, since `floor` tests it. For n and d in
-    // counts, (2·65,536·n + 1 − d) / 2d lies less than a half from the floor, so that the nearest whole number is the floor. To that the sum with
-    // 2^52 + 2^51 + 2^30 is rounded, and its last 31 bits hold it, greater by 2^30.
+    // The whole number nearest to 65,536·n / d, by 64-bit floats, which divide faster than 64-bit integers. Only its size is promised, since `below`
+    // tests it. To that number the sum with 2^52 + 2^51 + 2^30 is rounded, and its last 31 bits hold it, greater by 2^30.
     #[inline(always)]
     fn guess(self) -> i64
         ensures { unsigned_abs result ≤ 2 ^ 30 }
     {
-        let n = f64::from(self.n);
+        let n = f64::from(self.n) * 65_536.0;
         let d = f64::from(self.d);
-        let near = (131_072.0 * n + 1.0 - d) / (2.0 * d);
-        let bits = f64_to_bits_with_nan(near + 6_755_400_514_797_568.0);
+        let bits = f64_to_bits_with_nan(n / d + 6_755_400_514_797_568.0);
         (bits % 0x8000_0000) as i64 - 0x4000_0000
     }
 
-    // 65,536·n / d rounded down to a whole number, also where it is negative. Whatever the guess is, it is taken only where it leaves a rest from 0 to
-    // below d, which makes it the floor.
-    #[inline(always)]
-    fn floor(self) -> i64
-        ensures { result ≡ int_div_euclid (self.n *ℤ pos 65536) (pos self.d) }
-    {
-        let n = i64::from(self.n) * 65536;
-        let d = i64::from(self.d);
-        let guess = self.guess();
-        let rest = n - guess * d;
-        if 0 <= rest && rest < d {
-            guess
-        } else {
-            n.div_euclid(d)
-        }
-    }
-
-    // The greatest mark not above the ratio.
+    // The greatest mark not above the ratio. Whatever the guess is, where it leaves a rest from −d to below d it is the floor or one more, and the sign of
+    // the rest says which. With the guess between −TOP and TOP the ratio is then from −TOP to below TOP, so that its floor is a mark.
     #[inline(always)]
     pub fn below(self) -> Option<Fixed>
         ensures { result ≡ ratios.below self }
     {
         let n = i64::from(self.n) * 65536;
-        if n.abs() > TOP * i64::from(self.d) {
+        let d = i64::from(self.d);
+        let guess = self.guess();
+        let rest = n - guess * d;
+        if -TOP < guess && guess < TOP && -d <= rest && rest < d {
+            return Some(Fixed {
+                count: (guess + (rest >> 63)) as i32,
+            });
+        }
+        self.divided()
+    }
+
+    // The same by whole numbers, where the guess is of no use.
+    #[inline(never)]
+    fn divided(self) -> Option<Fixed>
+        ensures { result ≡ ratios.below self }
+    {
+        let n = i64::from(self.n) * 65536;
+        let d = i64::from(self.d);
+        if n.abs() > TOP * d {
             return None;
         }
         Some(Fixed {
-            count: self.floor() as i32,
+            count: n.div_euclid(d) as i32,
         })
     }
 
