@@ -1,3 +1,4 @@
+pub mod Masks
 pub mod Scales
 pub mod Rounds
 pub mod Ops

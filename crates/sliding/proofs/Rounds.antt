@@ -1,7 +1,6 @@
 -- What the code of rounding gives.
-use Rattle.std.proofs.Common.{◌≡◌, ℕ, zero, suc, ◌+◌, ◌-◌, ◌/◌, ◌*◌, ◌%◌, ◌^◌, ◌<◌, ◌≤◌, ℤ, pos, negsuc, ◌*ℤ◌, neg_ℤ, nat_abs, ◌≤ℤ◌, Some, None, sym, refl, ap, ◌∙◌, subst, [], ◌∷◌, arith, pow_pos, pow-suc, pow-add, div-le_self, mul-le-mul_right, lit<, w64, SFits, to_z, of_z}
+use Rattle.std.proofs.Common.{◌≡◌, ℕ, zero, suc, ◌+◌, ◌-◌, ◌/◌, ◌*◌, ◌%◌, ◌^◌, ◌<◌, ◌≤◌, ℤ, pos, negsuc, ◌*ℤ◌, neg_ℤ, nat_abs, ◌≤ℤ◌, Some, None, sym, refl, ap, ◌∙◌, subst, [], ◌∷◌, bit_and, get_or, arith, pow_pos, pow-suc, pow-add, div-le_self, mul-le-mul_right, lit<, w64, SFits, to_z, of_z}
 use borrow.Author.Differences.{ints}
-use lib.Signed.{shr_z}
 use Rattle.std.proofs.Math.Nat.{mul-div_cancel, mul_right_comm}
 use Rattle.std.proofs.lemmas.Int.{by_lt_z, to_z-of_z, unsigned_abs-mul}
 use Rattle.std.specs.Int.{int_div_euclid}
@@ -10,7 +9,8 @@ use Rattle.exact.proofs.Integers.{neg-*ℤ, ring, ≤ℤ_cancel, ≤ℤ_times, �
 use Rattle.exact.proofs.Ring.{◌⊗◌, x0, x1, x2}
 use Rattle.kind.proofs.GridRules.{ratio_none_over, ratio_none_under, ratio_some}
 use Rattle.kind.specs.Grid.{grid_below, units_over}
-use Rattle.sliding.proofs.Scales.{plain_cut, plain_shl, scale_short}
+use Rattle.sliding.proofs.Masks.{masked, masks}
+use Rattle.sliding.proofs.Scales.{plain_shl, scale_short}
 use Rattle.sliding.specs.Cut.{Held, Scale, cut, shifted}
 use Rattle.sliding.specs.Form.{OnGrid}
 use Rattle.sliding.specs.Grid.{sliding_grid}
@@ -39,19 +39,22 @@ module _ (k : ℤ) (s : ℕ) (f : SFits w64 k) (b : nat_abs k ≤ 72057589742960
   short : s ≤ 32
   short = scale_short right b
 
-  pub shift_fits : s < 64
-  shift_fits = let l = short in omega arith
+  pub mask_there : s < 33
+  mask_there = let l = short in omega arith
 
   on : OnGrid (cut k s)
   on = on_cut k s b right.under short
 
-  is_cut : to_z w64 ((of_z w64 (shr_z (to_z w64 (of_z w64 k)) (2 ^ s)) * 2 ^ s) % 2 ^ 64) ≡ cut k s
-  is_cut = let l = short in let o = on.0 in plain_cut k s f (omega arith) (omega arith)
+  abbrev kept : ℤ
+  kept = to_z w64 (bit_and (of_z w64 k) (of_z w64 (get_or masks s (pos 0))))
 
-  pub is_mark : OnGrid (to_z w64 ((of_z w64 (shr_z (to_z w64 (of_z w64 k)) (2 ^ s)) * 2 ^ s) % 2 ^ 64))
+  is_cut : kept ≡ cut k s
+  is_cut = let o = on.0 in masked k s f mask_there (omega arith)
+
+  pub is_mark : OnGrid kept
   is_mark = subst OnGrid (sym is_cut) on
 
-  pub is_below : (a : Sliding) → a.units ≡ to_z w64 ((of_z w64 (shr_z (to_z w64 (of_z w64 k)) (2 ^ s)) * 2 ^ s) % 2 ^ 64) → Some a ≡ whole.below k
+  pub is_below : (a : Sliding) → a.units ≡ kept → Some a ≡ whole.below k
   is_below a e = whole_some a k s right b (e ∙ is_cut)
 
 pub floor_small : (n : ℤ) (d : ℕ) → 0 < d → (m : ℕ) → nat_abs n ≤ m * d → nat_abs (int_div_euclid n (pos d)) ≤ m

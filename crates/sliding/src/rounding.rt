@@ -8,15 +8,52 @@ use crate::mark::Sliding;
 // The greatest mark in units.
 pub const TOP: u64 = 16_777_215 << 32;
 
-// How many bits k has beyond 24.
+// How many bits k has beyond 24. With its lowest 24 bits set, it has no fewer than 24 bits.
 #[inline(always)]
 #[tactic(auto, using(crate::proofs::Scales::scale_is))]
 pub fn scale_of(k: i64) -> u32
     requires { unsigned_abs k < 2 ^ 63 }
     ensures { Scale k result }
 {
-    40_u32.saturating_sub(k.unsigned_abs().leading_zeros())
+    40 - (k.unsigned_abs() | 0xFF_FFFF).leading_zeros()
 }
+
+// The mask at s clears the lowest s bits.
+static MASKS: [i64; 33] = [
+    -1 << 0,
+    -1 << 1,
+    -1 << 2,
+    -1 << 3,
+    -1 << 4,
+    -1 << 5,
+    -1 << 6,
+    -1 << 7,
+    -1 << 8,
+    -1 << 9,
+    -1 << 10,
+    -1 << 11,
+    -1 << 12,
+    -1 << 13,
+    -1 << 14,
+    -1 << 15,
+    -1 << 16,
+    -1 << 17,
+    -1 << 18,
+    -1 << 19,
+    -1 << 20,
+    -1 << 21,
+    -1 << 22,
+    -1 << 23,
+    -1 << 24,
+    -1 << 25,
+    -1 << 26,
+    -1 << 27,
+    -1 << 28,
+    -1 << 29,
+    -1 << 30,
+    -1 << 31,
+    -1 << 32,
+];
 
 // The greatest mark not above k units, absent outside −T to T. A negative k may be cut to −2^24 × 2^s, which is −2^23 × 2^(s + 1).
 #[inline(always)]
@@ -26,8 +63,9 @@ pub fn below(k: i64) -> Option<Sliding>
     if k.unsigned_abs() > TOP {
         return None;
     }
-    let s = scale_of(k);
-    Some(Sliding { units: k >> s << s })
+    Some(Sliding {
+        units: k & MASKS[scale_of(k) as usize],
+    })
 }
 
 // The least mark not below k units, by the mirror image.
