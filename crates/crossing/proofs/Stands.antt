@@ -1,5 +1,7 @@
 -- Constants that stand: their records are made one after the other, and no other record takes their place.
-use Rattle.std.proofs.Common.{◌≡◌, ℕ, ◌+◌, ◌<◌, ◌≤◌, List, length, get_or, take, set, ℤ, Some, Ok, ⊎_elim, sym, ap, ◌∙◌, subst, arith, length-set, length-take-le}
+use Rattle.std.proofs.Common.{◌≡◌, ℕ, ◌+◌, ◌<◌, ◌≤◌, List, length, get_or, take, set, ℤ, Some, Ok, Err, Result, true, true≢false, refl, ⊎_elim, sym, ap, ◌∙◌, subst, arith, length-set, length-take-le}
+use Rattle.std.specs.Result.{is_ok}
+use Rattle.fault.specs.declared.fault.Fault.{Fault}
 use Rattle.std.proofs.lemmas.Bool.{cases_order}
 use Rattle.std.proofs.lemmas.List.{get_or-set_other, get_or-set_same, set-get_or}
 use Rattle.std.proofs.lemmas.Option.{get_or_from_slice_get, slice_get-get_or, slice_get_within}
@@ -58,3 +60,7 @@ module _ {K : Type 0} (m : Model K) (ls : List Line) where
     stands_here b hw k e s = (s.0,
         s.1 ∙ sym (ap (rule m b (take i w)) e ∙ ap (constant m k) (length-take-le i w hw)),
         sym (ap (set w i) (sym (get_or_from_slice_get w i s.0 s.0 s.2)) ∙ set-get_or w i s.0))
+
+pub accepted_is : (r : Result (Unit {0}) Fault) → is_ok r ≡ true → (u : Unit {0}) × (r ≡ Ok u)
+accepted_is (Ok u) e = (u, refl)
+accepted_is (Err f) e = absurd (true≢false (sym e))
