@@ -38,33 +38,48 @@ shift_plain (negsuc a) h = omega (arith, ints)
 pub shift_count : (n : ℤ) → nat_abs n ≤ 1073741823 * 65536 → to_z w32 (of_z w32 (to_z w64 (of_z w64 (shr_z (to_z w64 (of_z w64 n)) 65536)))) ≡ int_div_euclid n (pos 65536)
 shift_count n h = rw (to_z-of_z w64 n (omega (arith, ints))) (shift_plain n h)
 
--- q is the floor where the rest, n − q·d, is from 0 to below d
-pub floor_at : (n q : ℤ) (d : ℕ) → 0 < d → (q *ℤ pos d) ≤ℤ n → n <ℤ (q *ℤ pos d +ℤ pos d) → q ≡ int_div_euclid n (pos d)
-floor_at n q d h low high =
-    let next : (q +ℤ pos 1) *ℤ pos d ≡ q *ℤ pos d +ℤ pos d = ring (q ∷ pos d ∷ []) ((x0 ⊕ num (pos 1)) ⊗ x1) (x0 ⊗ x1 ⊕ x1) refl in
-    sym (floor_between n q d h low (rw next high))
+one_more : (q : ℤ) (d : ℕ) → (q +ℤ pos 1) *ℤ pos d ≡ q *ℤ pos d +ℤ pos d
+one_more q d = ring (q ∷ pos d ∷ []) ((x0 ⊕ num (pos 1)) ⊗ x1) (x0 ⊗ x1 ⊕ x1) refl
 
--- the sign of r, shifted through a word, is 0 or −1
-pub sign_shifted : (r : ℤ) (d : ℕ) → d < 2 ^ 32 → neg_ℤ (pos d) ≤ℤ r → r <ℤ pos d → (negsuc 0 ≤ℤ shr_z r (2 ^ 63)) × (shr_z r (2 ^ 63) ≤ℤ pos 0)
+one_less : (q : ℤ) (d : ℕ) → (q +ℤ negsuc 0) *ℤ pos d ≡ q *ℤ pos d +ℤ negsuc 0 *ℤ pos d
+one_less q d = ring (q ∷ pos d ∷ []) ((x0 ⊕ num (negsuc 0)) ⊗ x1) (x0 ⊗ x1 ⊕ num (negsuc 0) ⊗ x1) refl
+
+-- q is the floor where the rest, n − q·d, is from 0 to below d
+floor_at : (n q : ℤ) (d : ℕ) → 0 < d → (q *ℤ pos d) ≤ℤ n → n <ℤ (q *ℤ pos d +ℤ pos d) → q ≡ int_div_euclid n (pos d)
+floor_at n q d h low high = sym (floor_between n q d h low (rw (one_more q d) high))
+
+-- Where the rest r is from −d to below d, q or one less is the floor. The sign of r, shifted through a word, is what to add, 0 or −1, ..
+abbrev pub Sign : ℤ → Type 0
+Sign z = (negsuc 0 ≤ℤ z) × (z ≤ℤ pos 0)
+
+pub sign_shifted : (r : ℤ) (d : ℕ) → d < 2 ^ 32 → neg_ℤ (pos d) ≤ℤ r → r <ℤ pos d → Sign (shr_z r (2 ^ 63))
 sign_shifted (pos a) d w low high = (omega (arith, ints), omega (arith, ints))
 sign_shifted (negsuc a) d w low high = (omega (arith, ints), omega (arith, ints))
 
--- Where the rest r of q is from −d to below d, the floor is q or one less, as the sign of r says, ..
-pub floor_near : (n q r : ℤ) (d : ℕ) → 0 < d → d < 2 ^ 32 → r ≡ n -ℤ (q *ℤ pos d) → neg_ℤ (pos d) ≤ℤ r → r <ℤ pos d → q +ℤ shr_z r (2 ^ 63) ≡ int_div_euclid n (pos d)
+pub floor_near : (n q r : ℤ) (d : ℕ) → 0 < d → d < 2 ^ 32 → r ≡ n -ℤ q *ℤ pos d → neg_ℤ (pos d) ≤ℤ r → r <ℤ pos d
+    → q +ℤ shr_z r (2 ^ 63) ≡ int_div_euclid n (pos d)
 floor_near n q (pos a) d h w e low high =
     let z : q +ℤ shr_z (pos a) (2 ^ 63) ≡ q = omega (arith, ints) in
     z ∙ floor_at n q d h (omega (arith, ints)) (omega (arith, ints))
 floor_near n q (negsuc a) d h w e low high =
     let z : q +ℤ shr_z (negsuc a) (2 ^ 63) ≡ q +ℤ negsuc 0 = omega (arith, ints) in
-    let p : (q +ℤ negsuc 0) *ℤ pos d ≡ q *ℤ pos d +ℤ negsuc 0 *ℤ pos d = ring (q ∷ pos d ∷ []) ((x0 ⊕ num (negsuc 0)) ⊗ x1) (x0 ⊗ x1 ⊕ num (negsuc 0) ⊗ x1) refl in
+    let p = one_less q d in
     z ∙ floor_at n (q +ℤ negsuc 0) d h (omega (arith, ints)) (omega (arith, ints))
 
 -- .. and n / d is not above the top, if q is below it
-pub near_high : (n q r : ℤ) (d : ℕ) → q <ℤ pos 1073741823 → r ≡ n -ℤ (q *ℤ pos d) → r <ℤ pos d → n ≤ℤ (pos 1073741823 *ℤ pos d)
+pub near_high : (n q r : ℤ) (d : ℕ) → q <ℤ pos 1073741823 → r ≡ n -ℤ q *ℤ pos d → r <ℤ pos d → n ≤ℤ (pos 1073741823 *ℤ pos d)
 near_high n q r d t e high =
-    let next : (q +ℤ pos 1) *ℤ pos d ≡ q *ℤ pos d +ℤ pos d = ring (q ∷ pos d ∷ []) ((x0 ⊕ num (pos 1)) ⊗ x1) (x0 ⊗ x1 ⊕ x1) refl in
-    let k : ((q +ℤ pos 1) *ℤ pos d) ≤ℤ (pos 1073741823 *ℤ pos d) = ≤ℤ_times (q +ℤ pos 1) (pos 1073741823) d (omega (arith, ints)) in
+    let p = one_more q d in
+    let k = ≤ℤ_times (q +ℤ pos 1) (pos 1073741823) d (omega (arith, ints)) in
     omega (arith, ints)
+
+-- the sum is a count, and its cast cuts nothing
+pub plain_sum : (q z : ℤ) → nat_abs q < 1073741823 → Sign z
+    → to_z w32 (of_z w32 (to_z w64 (of_z w64 (to_z w64 (of_z w64 q) +ℤ to_z w64 (of_z w64 z))))) ≡ q +ℤ z
+plain_sum q z h s = omega (arith, ints)
+
+pub sum_count : (q z : ℤ) → nat_abs q < 1073741823 → Sign z → Count (q +ℤ z)
+sum_count q z h s = (omega (arith, ints), omega (arith, ints))
 
 -- at the number that is meant
 module _ (z n : ℤ) (d : ℕ) (g h : 0 < d) (e : z ≡ n) where

@@ -51,8 +51,9 @@ pub struct Ratio {
 impl Ratio {
     ghost use Rattle.fixed.specs.Ratios as ratios;
 
-    // The whole number nearest to 65,536·n / d, by 64-bit floats, which divide faster than 64-bit integers. Only its size is promised, since `below`
-    // tests it. To that number the sum with 2^52 + 2^51 + 2^30 is rounded, and its last 31 bits hold it, greater by 2^30.
+    // A guess at the whole number nearest to 65,536·n / d, by 64-bit floats, which divide faster than 64-bit integers. Only its size is
+    // promised, since `below` tests it. The sum with 2^52 + 2^51 + 2^30 is rounded to a whole number, and its last 31 bits hold the guess,
+    // greater by 2^30.
     #[inline(always)]
     fn guess(self) -> i64
         ensures { unsigned_abs result ≤ 2 ^ 30 }
@@ -63,8 +64,8 @@ impl Ratio {
         (bits % 0x8000_0000) as i64 - 0x4000_0000
     }
 
-    // The greatest mark not above the ratio. Whatever the guess is, where it leaves a rest from −d to below d it is the floor or one more, and the sign of
-    // the rest says which. With the guess between −TOP and TOP the ratio is then from −TOP to below TOP, so that its floor is a mark.
+    // The greatest mark not above the ratio. Whatever the guess is, where it leaves a rest from −d to below d, it is the floor or one more,
+    // and the sign of the rest says which. With such a guess between −TOP and TOP the ratio is from −TOP to TOP, so the floor is a mark.
     #[inline(always)]
     pub fn below(self) -> Option<Fixed>
         ensures { result ≡ ratios.below self }

@@ -7,7 +7,9 @@ use Rattle.fixed.proofs.ratio.Ratio.divided.Goals as goal
 use Rattle.fixed.proofs.ratio.Ratio.divided.Goals.{After-div_euclid}
 
 pub returns-then-abs-d : goal.returns-then-abs-d
-returns-then-abs-d c = fixed_none (c.args.self.n *ℤ pos 65536) c.args.self.d c.args.self.positive (let e = c.abs.ensures.value in omega (arith, ints))
+returns-then-abs-d c =
+    let e = c.abs.ensures.value in
+    fixed_none (c.args.self.n *ℤ pos 65536) c.args.self.d c.args.self.positive (omega (arith, ints))
 
 high : (c : After-div_euclid) → (c.args.self.n *ℤ pos 65536) ≤ℤ (pos 1073741823 *ℤ pos c.args.self.d)
 high c = let e = c.abs.ensures.value in omega (arith, ints)
