@@ -41,3 +41,11 @@ module _ {K : Type 0} (m : Model K) (rules : Rules m) (p : Record K) where
 
     pub constant_by : records.product m (still m x) p ≡ made (spans.product m x p.u) (spans.product m x p.u0) (times_slopes m x p.slopes)
     constant_by = ap (made (spans.product m x p.u) (spans.product m x p.u0)) by_slopes
+
+    -- slopes that are [0] stay as they are
+    module _ (s : Slopes K) (es : p.slopes ≡ Some s) (h : is_still m s ≡ true) where
+      pub still_times : slopes_times m p.slopes x ≡ Some s
+      still_times = rw (es, is_still_is m rules s h) (simp (zero_product m rules))
+
+      pub times_still : times_slopes m x p.slopes ≡ Some s
+      times_still = rw (es, is_still_is m rules s h) (simp (product_zero m rules))

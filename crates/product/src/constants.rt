@@ -25,7 +25,7 @@ pub fn constant<K: NumberKind>(p: &Record<K>) -> Option<K>
     }
 }
 
-// The slopes × k, or no slopes.
+// The slopes × k, or no slopes. Those that are [0] stay [0].
 #[inline(always)]
 fn slopes_by<K: NumberKind>(base: Base<K>, p: &Record<K>, k: K) -> Record<K>
     ensures right { result ≡ rec base.u base.u0 (slopes_times K.NumberKind.model p.now.slopes (point K.NumberKind.model k)) }
@@ -34,6 +34,9 @@ fn slopes_by<K: NumberKind>(base: Base<K>, p: &Record<K>, k: K) -> Record<K>
     let Some(s) = &p.slopes else {
         return base.flat();
     };
+    if s.is_still() {
+        return base.sloped(*s);
+    }
     let Some(a) = s.a.scaled(k) else {
         return base.flat();
     };
