@@ -23,5 +23,7 @@ module _ {K : Type 0} (m : Model K) (rules : Rules m) (p q : Record K) (s t : Sl
   both_still h h' = by_still h' ∙ rw (is_still_is m rules s h) (simp (zero_product m rules))
 
   -- two straight lines
-  pub of_straight : (a b : Span K) → is_zero m s.c ≡ true → is_zero m t.c ≡ true → bent_slopes m a b p q ≡ (product m s.a t.b >>= (λ c. three a b c))
-  of_straight a b h h' = rw (es, et, is_zero_is m rules s.c h, is_zero_is m rules t.c h') (simp (product_zero m rules, zero_product m rules, zero_sum m rules))
+  pub of_straight : (a b : Span K) → is_zero m s.c ≡ true → is_zero m t.c ≡ true →
+      bent_slopes m a b p q ≡ (product m s.a t.b >>= (λ c. three a b c))
+  of_straight a b h h' =
+      rw (es, et, is_zero_is m rules s.c h, is_zero_is m rules t.c h') (simp (product_zero m rules, zero_product m rules, zero_sum m rules))
