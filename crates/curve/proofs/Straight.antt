@@ -33,6 +33,7 @@ by_test true x y z t e = t refl
 by_test false x y z t e = e refl
 
 module _ {K : Type 0} (m : Model K) (rules : Rules m) (f : Shape K) (s : Slopes K) where
+  -- the rest of the rule
   abbrev with_third : Span K → Span K → Span K → Option (Slopes K)
   with_third a b d = spans.product m f.g s.c >>= (λ c1. spans.sum m c1 d >>= (λ c. three a b c))
 
@@ -49,6 +50,7 @@ module _ {K : Type 0} (m : Model K) (rules : Rules m) (f : Shape K) (s : Slopes 
 
 module _ {K : Type 0} (m : Model K) (rules : Rules m) (f : Shape K) (s : Slopes K) (g e : K) where
   -- K × Au × Bu is [0] and adds nothing
-  pub scaled_is : spans.is_zero m f.k ≡ true → spans.sole m f.g ≡ Some g → spans.sole m f.e ≡ Some e → scaled m g e s ≡ lift_slopes m f (Some s)
+  pub scaled_is : spans.is_zero m f.k ≡ true → spans.sole m f.g ≡ Some g → spans.sole m f.e ≡ Some e →
+      scaled m g e s ≡ lift_slopes m f (Some s)
   scaled_is hk hg he = rw (is_zero_is m rules f.k hk, sole_is m rules f.g g hg, sole_is m rules f.e e he)
       (simp (zero_product m rules, sum_zero m rules))

@@ -17,4 +17,5 @@ returns g c = c.scaled.ensures ∙ ap (rec c.args.base.u c.args.base.u0)
 
 pub returns-2 : goal.returns-2
 returns-2 g c = c.bent.ensures ∙ ap (rec c.args.base.u c.args.base.u0)
-    (bent_is g.K.NumberKind.model g.met.K.NumberKind.rules c.args.f.now _ ∙ ap (lift_slopes g.K.NumberKind.model c.args.f.now) (sym c.in-Some.is))
+    (bent_is g.K.NumberKind.model g.met.K.NumberKind.rules c.args.f.now _
+    ∙ ap (lift_slopes g.K.NumberKind.model c.args.f.now) (sym c.in-Some.is))
