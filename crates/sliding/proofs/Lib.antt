@@ -1,3 +1,4 @@
+pub mod Guesses
 pub mod Masks
 pub mod Scales
 pub mod Rounds

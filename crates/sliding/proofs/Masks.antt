@@ -21,7 +21,8 @@ from_at (suc n) k (suc i) h = from_at n (suc k) i (omega arith) ∙ ap (λ (j : 
 
 -- ---- a mask clears the lowest s bits
 cleared : (x s : ℕ) → s ≤ 62 → x < 2 ^ 64 → bit_and x (of_z w64 (neg_ℤ (pos (2 ^ s)))) ≡ x / 2 ^ s * 2 ^ s
-cleared x s q h = ap (bit_and x) (let o = pow_pos s in let m : 2 ^ s ≤ 2 ^ 62 = pow_mono q in omega (arith, ints)) ∙ and_high_mask 64 s (omega arith) x h
+cleared x s q h = ap (bit_and x) (let o = pow_pos s in let m : 2 ^ s ≤ 2 ^ 62 = pow_mono q in omega (arith, ints))
+    ∙ and_high_mask 64 s (omega arith) x h
 
 -- h p − 1 − a cut to a multiple of p, where q is how often p goes into a
 cut_from : (a p h q x : ℕ) → 2 ^ 64 ≡ h * p → a < suc q * p → h ≡ x + suc q → 2 ^ 64 - suc a ≡ x * p + (suc q * p - suc a)
@@ -42,7 +43,8 @@ module _ (a s : ℕ) (q : s ≤ 62) (b : suc (a / 2 ^ s) * 2 ^ s < 2 ^ 63) where
   next = let o = pow_pos s in omega arith
 
   counted : (2 ^ 64 - suc a) / 2 ^ s ≡ x
-  counted = let o = pow_pos s in ap (λ (j : ℕ). j / 2 ^ s) (cut_from a (2 ^ s) (2 ^ (64 - s)) (a / 2 ^ s) x whole next above) ∙ shr_high x s _ (omega arith)
+  counted = let o = pow_pos s in
+      ap (λ (j : ℕ). j / 2 ^ s) (cut_from a (2 ^ s) (2 ^ (64 - s)) (a / 2 ^ s) x whole next above) ∙ shr_high x s _ (omega arith)
 
   all : x * 2 ^ s + suc (a / 2 ^ s) * 2 ^ s ≡ 2 ^ 64
   all = sym (whole ∙ ap (λ (j : ℕ). j * 2 ^ s) above ∙ omega arith)
@@ -51,7 +53,8 @@ module _ (a s : ℕ) (q : s ≤ 62) (b : suc (a / 2 ^ s) * 2 ^ s < 2 ^ 63) where
   negative = ap (λ (j : ℕ). to_z w64 (j * 2 ^ s)) counted ∙ minus (x * 2 ^ s) (suc (a / 2 ^ s) * 2 ^ s) all (let n = next in omega arith) b
     where
       minus : (u v : ℕ) → u + v ≡ 2 ^ 64 → 0 < v → v < 2 ^ 63 → to_z w64 u ≡ neg_ℤ (pos v)
-      minus u v e o l = let f : u ≡ of_z w64 (neg_ℤ (pos v)) = omega (arith, ints) in ap (to_z w64) f ∙ to_z-of_z w64 (neg_ℤ (pos v)) (omega (arith, ints))
+      minus u v e o l = let f : u ≡ of_z w64 (neg_ℤ (pos v)) = omega (arith, ints) in
+          ap (to_z w64) f ∙ to_z-of_z w64 (neg_ℤ (pos v)) (omega (arith, ints))
 
 abs_minus : (n : ℕ) → nat_abs (neg_ℤ (pos n)) ≡ n
 abs_minus n = omega (arith, ints)

@@ -18,7 +18,9 @@ pub scale_bound : (a : ℕ) → a < 2 ^ 63 → count_leading_zeros 64 (bit_or a 
 scale_bound a h =
     let f = filled a in
     let l = leading_length 64 (bit_or a 16777215) (omega arith) in
-    by_lt_z (pos l.0) (pos 24) (λ q. let p = pow_mono {i = l.0} {j = 23} (omega (arith, ints)) in absurd (omega (arith, l.2))) (λ q. omega (arith, ints, l.1))
+    by_lt_z (pos l.0) (pos 24)
+    (λ q. let p = pow_mono {i = l.0} {j = 23} (omega (arith, ints)) in absurd (omega (arith, l.2)))
+    (λ q. omega (arith, ints, l.1))
 
 even : (s : ℕ) → 0 < s → (h : ℕ) × (2 ^ s ≡ 2 * h)
 even zero w = absurd (omega arith)

@@ -1,4 +1,4 @@
-// Rounding of whole numbers of units to marks: a shift there and back, by the count of leading zeros.
+// Rounding of whole numbers of units to marks: the bits beyond 24 are cleared, by the count of leading zeros.
 ghost use Rattle.std.specs.Prelude.{◌≡◌, ◌^◌, ◌<◌, unsigned_abs};
 ghost use Rattle.sliding.specs.Cut.{Scale};
 ghost use Rattle.sliding.specs.Whole as whole;
