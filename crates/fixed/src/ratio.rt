@@ -24,11 +24,7 @@ impl Product {
     pub fn lesser(self, other: Product) -> Product
         ensures { ratios.product result ≡ min_F (ratios.product self) (ratios.product other) }
     {
-        if self.n <= other.n {
-            self
-        } else {
-            other
-        }
+        if self.n <= other.n { self } else { other }
     }
 
     #[inline(always)]
@@ -36,11 +32,7 @@ impl Product {
     pub fn greater(self, other: Product) -> Product
         ensures { ratios.product result ≡ max_F (ratios.product self) (ratios.product other) }
     {
-        if self.n <= other.n {
-            other
-        } else {
-            self
-        }
+        if self.n > other.n { self } else { other }
     }
 
     // The greatest mark not above the product. The shift is the floor, also where n is negative.

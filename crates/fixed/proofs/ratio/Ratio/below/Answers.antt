@@ -50,5 +50,5 @@ returns-then-rest-d c =
     let at = (goal.at.returns-then-rest-d c).Then-rest-d in
     let g = size at in
     fixed_some (c.args.self.n *ℤ pos 65536) c.args.self.d c.args.self.positive _
-        (plain at ∙ floor_near (c.args.self.n *ℤ pos 65536) c.guess-guess.result (rest at) c.args.self.d c.args.self.positive (omega arith) (exact at) (omega (arith, ints)) (omega (arith, ints)))
-        (near_high (c.args.self.n *ℤ pos 65536) c.guess-guess.result (rest at) c.args.self.d (omega (arith, ints)) (exact at) (omega (arith, ints)))
+    (plain at ∙ floor_near (c.args.self.n *ℤ pos 65536) c.guess-guess.result (rest at) c.args.self.d c.args.self.positive (omega arith) (exact at) (omega (arith, ints)) (omega (arith, ints)))
+    (near_high (c.args.self.n *ℤ pos 65536) c.guess-guess.result (rest at) c.args.self.d (omega (arith, ints)) (exact at) (omega (arith, ints)))
