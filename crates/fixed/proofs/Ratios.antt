@@ -1,5 +1,5 @@
 -- What the code computes in 64 bits, as ratios of counts.
-use Rattle.std.proofs.Common.{◌≡◌, ℕ, ◌*◌, ◌^◌, ◌<◌, ◌≤◌, [], ◌∷◌, ℤ, pos, negsuc, ◌+ℤ◌, ◌-ℤ◌, ◌*ℤ◌, neg_ℤ, nat_abs, ◌≤ℤ◌, ◌<ℤ◌, Some, None, w32, w64, to_z, of_z, sym, refl, ap, ◌∙◌, subst, arith, lit<}
+use Rattle.std.proofs.Common.{◌≡◌, ℕ, ◌*◌, ◌^◌, ◌<◌, ◌≤◌, Bool, cond, [], ◌∷◌, ℤ, pos, negsuc, ◌+ℤ◌, ◌-ℤ◌, ◌*ℤ◌, neg_ℤ, nat_abs, ◌≤ℤ◌, ◌<ℤ◌, Some, None, w32, w64, to_z, of_z, sym, refl, ap, ◌∙◌, subst, arith, lit<}
 use borrow.Author.Differences.{ints}
 use lib.IntN.{neg_ℤ-neg_ℤ}
 use lib.Signed.{le_z, shr_z}
@@ -9,14 +9,16 @@ use Rattle.exact.proofs.Floors.{floor_between, floor_exact, floor_greatest, floo
 use Rattle.exact.proofs.Integers.{leZ_times, ring, ≤ℤ_cancel, ≤ℤ_times, ≤ℤ_trans}
 use Rattle.exact.proofs.Ring.{num, x0, x1, ◌⊗◌, ◌⊕◌}
 use Rattle.exact.specs.Floor.{ceiling, floor}
-use Rattle.exact.specs.Fraction.{◌≈◌, le_F, neg_F}
+use Rattle.exact.specs.Fraction.{◌≈◌, le_F, max_F, min_F, neg_F}
 use Rattle.kind.proofs.GridOps.{above, below}
 use Rattle.kind.proofs.GridRules.{above_of, ratio_none_over, ratio_none_under, ratio_some}
 use Rattle.kind.specs.Grid.{grid_above, grid_below, grid_value, units_over}
 use Rattle.kind.specs.Model.{count}
 use Rattle.fixed.specs.Rules.{fixed_lawful, same_mark}
 use Rattle.fixed.specs.Grid.{Count, fixed_grid}
+use Rattle.fixed.specs.Ratios.{product}
 use Rattle.fixed.specs.declared.mark.Fixed.{Fixed}
+use Rattle.fixed.specs.declared.ratio.Product.{Product}
 
 -- ---- the floor of n / d counts is a count, and the mark below
 pub floor_count : (n : ℤ) (d : ℕ) → 0 < d → (neg_ℤ (pos 1073741823) *ℤ pos d) ≤ℤ n → n ≤ℤ (pos 1073741823 *ℤ pos d) → Count (int_div_euclid n (pos d))
@@ -92,6 +94,20 @@ module _ (z n : ℤ) (d : ℕ) (g h : 0 < d) (e : z ≡ n) where
 
   pub at_above : grid_above fixed_grid (units_over fixed_grid z d g) ≡ grid_above fixed_grid (units_over fixed_grid n d h)
   at_above = above fixed_grid fixed_lawful _ _ same
+
+-- ---- products over one denominator compare as their whole numbers do
+module _ (p q : Product) where
+  le_product : le_F (product p) (product q) ≡ le_z p.n q.n
+  unfolding le_F units_over
+  le_product = leZ_times p.n q.n (65536 * 65536) (lit< tt)
+
+  pub min_product : min_F (product p) (product q) ≡ cond (le_z p.n q.n) (product p) (product q)
+  unfolding min_F
+  min_product = ap (λ (b : Bool). cond b (product p) (product q)) le_product
+
+  pub max_product : max_F (product p) (product q) ≡ cond (le_z p.n q.n) (product q) (product p)
+  unfolding max_F
+  max_product = ap (λ (b : Bool). cond b (product q) (product p)) le_product
 
 -- ---- n counts, where nothing is rounded
 module _ (n : ℤ) where

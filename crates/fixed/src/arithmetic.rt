@@ -1,5 +1,6 @@
 // The fixed kind keeps the rules of a kind; its arithmetic stays in 64 bits.
 ghost use Rattle.std.specs.Prelude.{◌≡◌};
+ghost use Rattle.exact.specs.Fraction.{◌*F◌};
 ghost use Rattle.kind.specs.Model as kinds;
 ghost use Rattle.fixed.specs.Grid.{fixed_grid, fixed_model, mark_of};
 ghost use Rattle.fixed.specs.Marks.{FixedMarks};
@@ -52,8 +53,7 @@ fn sum(a: Fixed, b: Fixed) -> Option<Fixed>
 
 #[inline(always)]
 fn product(a: Fixed, b: Fixed) -> Product
-    ensures below { ratios.product_below result ≡ kinds.product_below fixed_model a b }
-    ensures above { ratios.product_above result ≡ kinds.product_above fixed_model a b }
+    ensures { ratios.product result ≡ fixed_model.value a *F fixed_model.value b }
 {
     Product {
         n: i64::from(a.count) * i64::from(b.count),
@@ -119,6 +119,21 @@ impl NumberKind for Fixed {
     #[inline(always)]
     fn product_above(self, other: Fixed) -> Option<Fixed> {
         product(self, other).above()
+    }
+
+    // The four products are compared before one of them is rounded.
+    #[inline(always)]
+    fn least_below(a: Fixed, b: Fixed, c: Fixed, d: Fixed) -> Option<Fixed> {
+        let from_a = product(a, c).lesser(product(a, d));
+        let from_b = product(b, c).lesser(product(b, d));
+        from_a.lesser(from_b).below()
+    }
+
+    #[inline(always)]
+    fn greatest_above(a: Fixed, b: Fixed, c: Fixed, d: Fixed) -> Option<Fixed> {
+        let from_a = product(a, c).greater(product(a, d));
+        let from_b = product(b, c).greater(product(b, d));
+        from_a.greater(from_b).above()
     }
 
     #[inline(always)]

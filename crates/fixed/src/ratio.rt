@@ -15,7 +15,25 @@ pub struct Product {
 }
 
 impl Product {
+    ghost use Rattle.exact.specs.Fraction.{max_F, min_F};
     ghost use Rattle.fixed.specs.Ratios as ratios;
+
+    // The lesser and the greater of two products: what is chosen is a value, and no way through the code.
+    #[inline(always)]
+    #[tactic(auto, using(crate::proofs::Ratios::min_product))]
+    pub fn lesser(self, other: Product) -> Product
+        ensures { ratios.product result ≡ min_F (ratios.product self) (ratios.product other) }
+    {
+        if self.n <= other.n { self } else { other }
+    }
+
+    #[inline(always)]
+    #[tactic(auto, using(crate::proofs::Ratios::max_product))]
+    pub fn greater(self, other: Product) -> Product
+        ensures { ratios.product result ≡ max_F (ratios.product self) (ratios.product other) }
+    {
+        if self.n > other.n { self } else { other }
+    }
 
     // The greatest mark not above the product. The shift is the floor, also where n is negative.
     #[inline(always)]

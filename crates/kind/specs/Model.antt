@@ -2,7 +2,7 @@
 use Rattle.std.specs.Prelude.{◌≡◌, ◌^◌, Bool, ℤ, pos, Some, None, Option}
 use Rattle.std.proofs.Common.{lit<}
 use Rattle.exact.specs.Optional.{◌>>=◌}
-use Rattle.exact.specs.Fraction.{Frac, ratio, whole, ◌+F◌, ◌*F◌, neg_F, inverse, ◌≈◌, ◌≤F◌, le_F}
+use Rattle.exact.specs.Fraction.{Frac, ratio, whole, ◌+F◌, ◌*F◌, neg_F, inverse, ◌≈◌, ◌≤F◌, le_F, max_F, min_F}
 
 -- the meaning of a kind whose marks are the values of K
 pub record Model (K : Type 0) : Type 0 where
@@ -64,6 +64,19 @@ module _ {K : Type 0} (m : Model K) where
 
   abbrev pub product_above : K → K → Option K
   product_above a b = m.above (m.value a *F m.value b)
+
+  -- the least and the greatest of a × c, a × d, b × c, b × d
+  abbrev pub least_product : K → K → K → K → Frac
+  least_product a b c d = min_F (min_F (m.value a *F m.value c) (m.value a *F m.value d)) (min_F (m.value b *F m.value c) (m.value b *F m.value d))
+
+  abbrev pub greatest_product : K → K → K → K → Frac
+  greatest_product a b c d = max_F (max_F (m.value a *F m.value c) (m.value a *F m.value d)) (max_F (m.value b *F m.value c) (m.value b *F m.value d))
+
+  abbrev pub least_below : K → K → K → K → Option K
+  least_below a b c d = m.below (least_product a b c d)
+
+  abbrev pub greatest_above : K → K → K → K → Option K
+  greatest_above a b c d = m.above (greatest_product a b c d)
 
   abbrev pub quotient_below : K → K → Option K
   quotient_below a b = inverse (m.value b) >>= (λ i. m.below (m.value a *F i))

@@ -34,6 +34,13 @@ pub trait NumberKind: Copy {
     fn product_above(self, other: Self) -> Option<Self>
         ensures { result ≡ kinds.product_above model self other };
 
+    // Of the products of a and b with c and d the least, rounded down, and the greatest, rounded up: the ends of a product of spans.
+    fn least_below(a: Self, b: Self, c: Self, d: Self) -> Option<Self>
+        ensures { result ≡ kinds.least_below model a b c d };
+
+    fn greatest_above(a: Self, b: Self, c: Self, d: Self) -> Option<Self>
+        ensures { result ≡ kinds.greatest_above model a b c d };
+
     fn quotient_below(self, other: Self) -> Option<Self>
         ensures { result ≡ kinds.quotient_below model self other };
 
