@@ -130,11 +130,13 @@ impl NumberKind for Sliding {
     }
 
     #[inline(always)]
+    #[tactic(auto, using(crate::proofs::Products::is_product_below))]
     fn product_below(self, other: Sliding) -> Option<Sliding> {
         Product::of(self, other).below()
     }
 
     #[inline(always)]
+    #[tactic(auto, using(crate::proofs::Products::is_product_above))]
     fn product_above(self, other: Sliding) -> Option<Sliding> {
         Product::of(self, other).above()
     }

@@ -2,7 +2,7 @@
 ghost use Rattle.std.specs.Prelude.{◌≡◌, ◌*ℤ◌, ◌^◌, ◌≤◌, unsigned_abs};
 
 use crate::mark::Sliding;
-use crate::rounding::{TOP, below};
+use crate::rounding::{TOP, cut};
 
 // n units of 2^-48
 #[derive(Clone, Copy)]
@@ -45,7 +45,7 @@ impl Product {
         if self.n.unsigned_abs() > u128::from(TOP) << 24 {
             return None;
         }
-        below((self.n >> 24) as i64)
+        Some(cut((self.n >> 24) as i64))
     }
 
     // The least mark not below the product, by the mirror image.

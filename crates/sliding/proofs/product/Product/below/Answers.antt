@@ -8,5 +8,5 @@ returns-then-unsigned_abs-from c = no_mark c.args.self.n c.args.self.bounded
     (let e = c.unsigned_abs.ensures.value in let f = c.from.ensures in let b = c.args.self.bounded in omega (arith, ints))
 
 pub returns : goal.returns
-returns c = c.below.ensures ∙ is_below c.args.self.n c.args.self.bounded
+returns c = c.cut.ensures ∙ is_below c.args.self.n c.args.self.bounded
     (let e = c.unsigned_abs.ensures.value in let f = c.from.ensures in let b = c.args.self.bounded in omega (arith, ints))
