@@ -1,20 +1,18 @@
 -- The operations of the sliding kind.
-use Rattle.std.proofs.Common.{◌≡◌, ℕ, zero, suc, ◌+◌, ◌-◌, ◌*◌, ◌%◌, ◌^◌, ◌<◌, ◌≤◌, [], ◌∷◌, ℤ, pos, ◌+ℤ◌, ◌-ℤ◌, ◌*ℤ◌, neg_ℤ, nat_abs, ◌<ℤ◌, Some, None, Option, sym, refl, ap, ◌∙◌, subst, ap₂, subst₂, shl_exact, mul-pos, arith, lit<, pow_pos, pow-add, w32, w64, SFits, to_z, of_z}
+use Rattle.std.proofs.Common.{◌≡◌, ℕ, zero, suc, ◌+◌, ◌-◌, ◌*◌, ◌%◌, ◌^◌, ◌<◌, ◌≤◌, [], ◌∷◌, ℤ, pos, ◌+ℤ◌, ◌-ℤ◌, ◌*ℤ◌, neg_ℤ, nat_abs, ◌<ℤ◌, Some, None, Option, sym, refl, ap, ◌∙◌, subst, subst₂, shl_exact, mul-pos, arith, lit<, pow_pos, pow-add, w32, w64, SFits, to_z, of_z}
 use borrow.Author.Differences.{ints}
 use lib.Signed.{le_z, shr_z}
 use Rattle.std.proofs.lemmas.Int.{to_z-of_z, unsigned_abs-mul}
-use Rattle.std.specs.Int.{int_div_euclid, w128}
+use Rattle.std.specs.Int.{int_div_euclid}
 use Rattle.exact.proofs.Floors.{floor_between, floor_low, floor_next}
 use Rattle.exact.proofs.Integers.{leZ_times, ring}
 use Rattle.exact.proofs.Ring.{◌⊗◌, num, x0, x1, x2, x3, ⊝◌}
 use Rattle.exact.specs.Floor.{ceiling, floor}
 use Rattle.exact.specs.Fraction.{Frac, ◌*F◌, ◌≈◌, le_F, neg_F, ratio}
 use Rattle.exact.specs.Optional.{◌>>=◌}
-use Rattle.kind.proofs.GridOps.{above, below, product_below_is, quotient_below_neg, quotient_below_pos, sum_above_is, sum_below_is}
-use Rattle.kind.proofs.Plain.{product_bound}
+use Rattle.kind.proofs.GridOps.{above, below, quotient_below_neg, quotient_below_pos, sum_above_is, sum_below_is}
 use Rattle.kind.specs.Grid.{grid_above, grid_below, grid_value, mirrored, units_over}
-use Rattle.kind.specs.Model.{count, count_above, count_below, product_below, quotient_below, sum_above, sum_below}
-use Rattle.sliding.proofs.Rounds.{by_floor, floor_small, ratio_none}
+use Rattle.kind.specs.Model.{count, count_above, count_below, quotient_below, sum_above, sum_below}
 use Rattle.sliding.proofs.Scales.{plain_part, plain_shr}
 use Rattle.sliding.proofs.Stored.{of_stored}
 use Rattle.sliding.specs.Cut.{Stands, shifted}
@@ -43,38 +41,6 @@ module _ (z n : ℤ) (e : z ≡ n *ℤ pos 256) where
 
   pub is_count_above : whole.above z ≡ count_above sliding_model n
   is_count_above = above sliding_grid sliding_lawful _ _ at_count
-
--- ---- products
-wide : (z v : ℤ) → nat_abs v < 2 ^ 63 → z ≡ to_z w64 (of_z w64 v) → to_z w128 (of_z w128 z) ≡ v
-wide z v b e = omega (arith, ints)
-
-module _ (a b : Sliding) (x y : ℤ) (e : x ≡ to_z w64 (of_z w64 a.units)) (f : y ≡ to_z w64 (of_z w64 b.units)) where
-  abbrev n : ℤ
-  n = to_z w128 (of_z w128 x) *ℤ to_z w128 (of_z w128 y)
-
-  exact : n ≡ a.units *ℤ b.units
-  exact = let p = a.on_grid.0 in let q = b.on_grid.0 in ap₂ ◌*ℤ◌ (wide x a.units (omega arith) e) (wide y b.units (omega arith) f)
-
-  fits : SFits w128 n
-  fits = let k = product_bound a.units b.units 72057589742960640 72057589742960640 a.on_grid.0 b.on_grid.0 in rw exact (omega (arith, ints))
-
-  plain : to_z w128 (of_z w128 n) ≡ a.units *ℤ b.units
-  plain = to_z-of_z w128 n fits ∙ exact
-
-  pub no_product : 72057589742960640 * 16777216 < nat_abs (to_z w128 (of_z w128 n)) → None ≡ product_below sliding_model a b
-  no_product h = ratio_none (a.units *ℤ b.units) 16777216 (lit< tt) (rw plain at h) ∙ product_below_is sliding_grid sliding_lawful a b
-
-  pub is_product_below : nat_abs (to_z w128 (of_z w128 n)) ≤ 72057589742960640 * 16777216
-      → whole.below (to_z w64 (of_z w64 (to_z w128 (of_z w128 (shr_z (to_z w128 (of_z w128 n)) 16777216))))) ≡ product_below sliding_model a b
-  is_product_below h =
-      let k = rw plain at h in
-      let c = floor_small (a.units *ℤ b.units) 16777216 (lit< tt) 72057589742960640 k in
-      let j : to_z w128 (of_z w128 (shr_z (to_z w128 (of_z w128 n)) 16777216)) ≡ int_div_euclid (a.units *ℤ b.units) (pos 16777216) =
-      plain_shr w128 n 24 fits ∙ ap (λ (z : ℤ). int_div_euclid z (pos 16777216)) exact in
-      ap (λ (z : ℤ). whole.below (to_z w64 (of_z w64 z))) j
-      ∙ ap (λ (z : ℤ). whole.below z) (to_z-of_z w64 (int_div_euclid (a.units *ℤ b.units) (pos 16777216)) (omega (arith, ints)))
-      ∙ by_floor (a.units *ℤ b.units) 16777216 (lit< tt) k
-      ∙ product_below_is sliding_grid sliding_lawful a b
 
 -- ---- quotients
 -- a power of two in ratio

@@ -2,6 +2,7 @@ pub mod Form
 pub mod Cut
 pub mod Grid
 pub mod Marks
+pub mod Products
 pub mod Ratios
 pub mod Rules
 pub mod Slides

@@ -7,8 +7,9 @@ ghost use Rattle.sliding.specs.Marks.{SlidingMarks};
 ghost use Rattle.sliding.specs.Rules.{sliding_rules};
 
 use crate::mark::Sliding;
+use crate::product::Product;
 use crate::ratio::Ratio;
-use crate::rounding::{TOP, above, below, scale_of};
+use crate::rounding::{above, below, scale_of};
 use kind::NumberKind;
 
 impl Sliding {
@@ -53,17 +54,6 @@ impl Sliding {
     {
         Sliding { units: -self.units }
     }
-}
-
-#[inline(always)]
-fn product(a: Sliding, b: Sliding) -> Option<Sliding>
-    ensures { result ≡ kinds.product_below sliding_model a b }
-{
-    let n = i128::from(a.units) * i128::from(b.units);
-    if n.unsigned_abs() > u128::from(TOP) << 24 {
-        return None;
-    }
-    below((n >> 24) as i64)
 }
 
 // The quotient of a by a positive b.
@@ -140,13 +130,29 @@ impl NumberKind for Sliding {
     }
 
     #[inline(always)]
+    #[tactic(auto, using(crate::proofs::Products::is_product_below))]
     fn product_below(self, other: Sliding) -> Option<Sliding> {
-        product(self, other)
+        Product::of(self, other).below()
     }
 
     #[inline(always)]
+    #[tactic(auto, using(crate::proofs::Products::is_product_above))]
     fn product_above(self, other: Sliding) -> Option<Sliding> {
-        product(self.opposite(), other).map(Sliding::opposite)
+        Product::of(self, other).above()
+    }
+
+    #[inline(always)]
+    fn least_below(a: Sliding, b: Sliding, c: Sliding, d: Sliding) -> Option<Sliding> {
+        let of_a = Product::of(a, c).lesser(Product::of(a, d));
+        let of_b = Product::of(b, c).lesser(Product::of(b, d));
+        of_a.lesser(of_b).below()
+    }
+
+    #[inline(always)]
+    fn greatest_above(a: Sliding, b: Sliding, c: Sliding, d: Sliding) -> Option<Sliding> {
+        let of_a = Product::of(a, c).greater(Product::of(a, d));
+        let of_b = Product::of(b, c).greater(Product::of(b, d));
+        of_a.greater(of_b).above()
     }
 
     fn quotient_below(self, other: Sliding) -> Option<Sliding> {

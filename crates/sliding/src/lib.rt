@@ -3,6 +3,7 @@
 
 mod arithmetic;
 mod mark;
+mod product;
 mod ratio;
 mod rounding;
 

@@ -1,5 +1,5 @@
 // Rounding of whole numbers of units to marks: the bits beyond 24 are cleared, by the count of leading zeros.
-ghost use Rattle.std.specs.Prelude.{◌≡◌, ◌^◌, ◌<◌, unsigned_abs};
+ghost use Rattle.std.specs.Prelude.{◌≡◌, ◌^◌, ◌<◌, ◌≤◌, Some, unsigned_abs};
 ghost use Rattle.sliding.specs.Cut.{Scale};
 ghost use Rattle.sliding.specs.Whole as whole;
 
@@ -55,7 +55,18 @@ static MASKS: [i64; 33] = [
     -1 << 32,
 ];
 
-// The greatest mark not above k units, absent outside −T to T. A negative k may be cut to −2^24 × 2^s, which is −2^23 × 2^(s + 1).
+// The greatest mark not above k units. A negative k may be cut to −2^24 × 2^s, which is −2^23 × 2^(s + 1).
+#[inline(always)]
+pub fn cut(k: i64) -> Sliding
+    requires { unsigned_abs k ≤ 72057589742960640 }
+    ensures { Some result ≡ whole.below k }
+{
+    Sliding {
+        units: k & MASKS[scale_of(k) as usize],
+    }
+}
+
+// The same, absent outside −T to T.
 #[inline(always)]
 pub fn below(k: i64) -> Option<Sliding>
     ensures { result ≡ whole.below k }
@@ -63,9 +74,7 @@ pub fn below(k: i64) -> Option<Sliding>
     if k.unsigned_abs() > TOP {
         return None;
     }
-    Some(Sliding {
-        units: k & MASKS[scale_of(k) as usize],
-    })
+    Some(cut(k))
 }
 
 // The least mark not below k units, by the mirror image.
