@@ -1,5 +1,5 @@
 -- The least and the greatest of four fractions. Of four products of ends they bound every product of what lies between the ends.
-use Rattle.std.proofs.Common.{◌≡◌, [], ◌∷◌, Option, refl, ap₂, ⊎_elim}
+use Rattle.std.proofs.Common.{◌≡◌, [], ◌∷◌, refl, ap₂, ⊎_elim}
 use Rattle.exact.proofs.Extremes.{max_ind, max_left, max_right, min_ind, min_left, min_right}
 use Rattle.exact.proofs.Fractions.{F_mul_comm, ≈_sym}
 use Rattle.exact.proofs.Order.{NN, le_by, ≤F_antisym, ≤F_of_≈, ≤F_total, ≤F_trans}

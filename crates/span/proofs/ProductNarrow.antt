@@ -3,7 +3,7 @@ use Rattle.exact.proofs.Fractions.{≈_refl, ≈_sym}
 use Rattle.exact.specs.Fraction.{Frac, ◌*F◌}
 use Rattle.exact.specs.Interval.{In}
 use Rattle.kind.specs.Model.{Model, Rules}
-use Rattle.span.proofs.Enclose.{Greatest, Least, enclose, lower_in, upper_in}
+use Rattle.span.proofs.Enclose.{enclose, lower_in, upper_in}
 use Rattle.span.proofs.Least.{extent, greatest_is, in_≈, least_is, product_between}
 use Rattle.span.specs.Laws.{Products}
 use Rattle.span.specs.Narrowest.{Held, Narrowest, Ordered}
