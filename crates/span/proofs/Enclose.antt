@@ -7,7 +7,7 @@ use Rattle.exact.specs.Fraction.{Frac, ◌≤F◌}
 use Rattle.kind.proofs.Orders.{mark_inside}
 use Rattle.kind.specs.Model.{Down, Inside, Model, Rules, Up}
 use Rattle.span.specs.Narrowest.{Fitting, Held, Narrowest, Ordered}
-use Rattle.span.specs.Spans.{both, ends, greater_mark, hull, lesser_mark}
+use Rattle.span.specs.Spans.{ends, greater_mark, hull, lesser_mark}
 use Rattle.span.specs.declared.span.Span.{Span}
 
 pub record Least (S : Frac → Type 0) (x : Frac) : Type 0 where
@@ -98,11 +98,6 @@ module _ {K : Type 0} (m : Model K) where
       hol : (x : Frac) → Union S T x → Held m (hull m s t) x
       hol x (inl p) = record { low = ≤F_trans (lesser_left _ _) (f.holds x p).low; high = ≤F_trans (f.holds x p).high (greater_left _ _) }
       hol x (inr p) = record { low = ≤F_trans (lesser_right _ _) (g.holds x p).low; high = ≤F_trans (g.holds x p).high (greater_right _ _) }
-
-  pub both_narrow : (S T : Frac → Type 0) (o p : Option (Span K)) → Narrowest m S o → Narrowest m T p → Narrowest m (Union S T) (both m o p)
-  both_narrow S T None p n k = record { at = n.at; member = inl n.member; outside = n.outside }
-  both_narrow S T (Some s) None n k = record { at = k.at; member = inr k.member; outside = k.outside }
-  both_narrow S T (Some s) (Some t) n k = hull_fits S T s t n k
 
   -- marks that are the least and the greatest member need no rounding
   pub exact_fits : Rules m → (S : Frac → Type 0) (w : Span K) → Least S (m.value w.lower) → Greatest S (m.value w.upper) → Fitting m S w

@@ -8,11 +8,12 @@ use Rattle.exact.proofs.Signs.{0F, 1F}
 use Rattle.exact.specs.Fraction.{Frac, Nonzero, ◌*F◌, ◌+F◌, ◌-F◌, ◌≈◌, ◌≤F◌, max_F, min_F, neg_F}
 use Rattle.kind.specs.Model.{Model, Rules, count}
 use Rattle.span.proofs.Enclose.{greater_ind, greater_left, greater_right, lesser_ind, lesser_left, lesser_right}
+use Rattle.span.proofs.Least.{in_≈}
 use Rattle.span.proofs.MagnitudeNarrow.{magnitude_narrow, square_narrow}
 use Rattle.span.proofs.ProductNarrow.{product_narrow}
 use Rattle.span.proofs.QuotientNarrow.{quotient_law}
 use Rattle.span.proofs.SumNarrow.{counts_narrow, difference_narrow, opposite_held, sum_narrow}
-use Rattle.span.specs.Narrowest.{Fitting, Held, Narrowest, Ordered}
+use Rattle.span.specs.Narrowest.{Fitting, Held, Narrowest, Ordered, interval}
 use Rattle.span.specs.Spans.{difference, greater, greater_mark, hull, lesser, lesser_mark, magnitude, negated, of_counts, one_span, product, quotient, square, sum, zero_span}
 use Rattle.span.specs.declared.span.Span.{Span}
 
@@ -28,7 +29,7 @@ module _ {K : Type 0} (m : Model K) where
   fits S o p e n = subst (Narrowest m S) e n
 
   pub held-≈ : (s : Span K) {x y : Frac} → x ≈ y → Held m s x → Held m s y
-  held-≈ s e h = record { low = ≤F_trans h.low (≤F_of_≈ e); high = ≤F_trans (≤F_of_≈ (≈_sym e)) h.high }
+  held-≈ s e h = in_≈ (interval m s) e h
 
   -- ---- nothing rounded
   pub hull_left : (s t : Span K) (x : Frac) → Held m s x → Held m (hull m s t) x

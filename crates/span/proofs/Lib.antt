@@ -1,5 +1,6 @@
 pub mod Enclose
 pub mod SumNarrow
+pub mod Least
 pub mod ProductNarrow
 pub mod QuotientNarrow
 pub mod MagnitudeNarrow

@@ -1,21 +1,17 @@
 -- The span [0]: what is found to be it is it, it leaves a sum as it was, and any product with it is it, of spans in any order.
-use Rattle.std.proofs.Common.{◌≡◌, Bool, true, false, cond, Some, Option, refl, sym, ap₂, subst}
+use Rattle.std.proofs.Common.{◌≡◌, true, Some, Option, sym, ◌∙◌, ap₂, subst}
 use Rattle.std.proofs.lemmas.Bool.{and_parts}
 use Rattle.exact.proofs.Fractions.{*-cong, +-cong, F_add_comm, F_mul_comm, F_neg_is, F_zero_add, F_zero_mul, ≈_refl, ≈_sym, ≈_trans}
-use Rattle.exact.proofs.Order.{le_F_true, le_F_yes, ≤F_antisym, ≤F_refl}
+use Rattle.exact.proofs.Order.{le_F_yes, ≤F_antisym}
 use Rattle.exact.specs.Fraction.{Frac, ◌*F◌, ◌+F◌, ◌≈◌}
 use Rattle.kind.proofs.Orders.{above_mark, below_mark}
 use Rattle.kind.specs.Model.{Model, Rules}
-use Rattle.span.specs.Spans.{corners, difference, ends, from_zero, is_nought, is_zero, product, product_across, product_down, product_up, span, sum, to_zero, zero_span}
+use Rattle.span.proofs.Least.{greatest_is, least_is, product_turned}
+use Rattle.span.specs.Spans.{difference, ends, is_nought, is_zero, product, span, sum, zero_span}
 use Rattle.span.specs.declared.span.Span.{Span}
 
--- what both branches are
-pub either : {X : Type 0} (b : Bool) (x y z : X) → x ≡ z → y ≡ z → cond b x y ≡ z
-either true x y z e f = e
-either false x y z e f = f
-
 module _ {K : Type 0} (m : Model K) (rules : Rules m) where
-  pub is_nought_is : (a : K) → is_nought m a ≡ true → a ≡ m.nought
+  is_nought_is : (a : K) → is_nought m a ≡ true → a ≡ m.nought
   is_nought_is a e = let p = and_parts _ _ e in rules.distinct _ _ (≤F_antisym (le_F_yes _ _ p.0) (le_F_yes _ _ p.1))
 
   pub is_zero_is : (s : Span K) → is_zero m s ≡ true → s ≡ zero_span m
@@ -25,7 +21,7 @@ module _ {K : Type 0} (m : Model K) (rules : Rules m) where
   nought_times : (x : Frac) → (m.value m.nought *F x) ≈ m.value m.nought
   nought_times x = ≈_trans (*-cong rules.nought_is (≈_refl x)) (≈_trans (F_zero_mul x) (≈_sym rules.nought_is))
 
-  pub times_nought : (x : Frac) → (x *F m.value m.nought) ≈ m.value m.nought
+  times_nought : (x : Frac) → (x *F m.value m.nought) ≈ m.value m.nought
   times_nought x = ≈_trans (F_mul_comm _ _) (nought_times x)
 
   nought_plus : (x : Frac) → (m.value m.nought +F x) ≈ x
@@ -51,26 +47,11 @@ module _ {K : Type 0} (m : Model K) (rules : Rules m) where
   difference_zero s = subst (λ a. sum m s (span m a a) ≡ Some s) (sym opposite_nought) (sum_zero s)
 
   -- ---- products
-  corners_right : (a c : K) → corners m a m.nought c m.nought ≡ Some (zero_span m)
-  corners_right a c = ends_of _ _ m.nought m.nought (below_mark m rules m.nought (times_nought _)) (above_mark m rules m.nought (times_nought _))
-
-  corners_left : (b d : K) → corners m m.nought b m.nought d ≡ Some (zero_span m)
-  corners_left b d = ends_of _ _ m.nought m.nought (below_mark m rules m.nought (nought_times _)) (above_mark m rules m.nought (nought_times _))
-
-  nought_up : from_zero m m.nought ≡ true
-  nought_up = le_F_true _ _ (≤F_refl _)
-
-  up_zero : (s : Span K) → product_up m s (zero_span m) ≡ Some (zero_span m)
-  up_zero s = corners_right _ _
-
-  down_zero : (s : Span K) → product_down m s (zero_span m) ≡ Some (zero_span m)
-  down_zero s = corners_right _ _
-
-  across_zero : (s : Span K) → product_across m s (zero_span m) ≡ Some (zero_span m)
-  across_zero s = rw nought_up (corners_right _ _)
-
+  -- all four products are 0
   pub product_zero : (s : Span K) → product m s (zero_span m) ≡ Some (zero_span m)
-  product_zero s = either (from_zero m s.lower) _ _ _ (up_zero s) (either (to_zero m s.upper) _ _ _ (down_zero s) (across_zero s))
+  product_zero s = ends_of _ _ m.nought m.nought
+      (below_mark m rules m.nought (least_is _ _ _ _ (λ x. x ≈ m.value m.nought) (times_nought _) (times_nought _) (times_nought _) (times_nought _)))
+      (above_mark m rules m.nought (greatest_is _ _ _ _ (λ x. x ≈ m.value m.nought) (times_nought _) (times_nought _) (times_nought _) (times_nought _)))
 
   pub zero_product : (s : Span K) → product m (zero_span m) s ≡ Some (zero_span m)
-  zero_product s = rw (nought_up, either (from_zero m s.lower) _ _ m.nought refl refl, either (to_zero m s.upper) _ _ m.nought refl refl) (corners_left _ _)
+  zero_product s = product_turned m rules (zero_span m) s ∙ product_zero s

@@ -1,7 +1,7 @@
 -- The operations on spans, end by end: the definitions that records compute with.
 use Rattle.std.specs.Prelude.{Bool, cond, ◌&&◌, ℤ, Some, None, Option}
 use Rattle.exact.specs.Optional.{◌>>=◌}
-use Rattle.kind.specs.Model.{Model, at_most, sum_below, sum_above, product_below, product_above, quotient_below, quotient_above, count_below, count_above}
+use Rattle.kind.specs.Model.{Model, at_most, sum_below, sum_above, product_below, product_above, least_below, greatest_above, quotient_below, quotient_above, count_below, count_above}
 use Rattle.span.specs.declared.span.Span.{Span}
 
 module _ {K : Type 0} (m : Model K) where
@@ -83,28 +83,9 @@ module _ {K : Type 0} (m : Model K) where
   abbrev pub corners : K → K → K → K → Option (Span K)
   corners a b c d = ends (product_below m a b) (product_above m c d)
 
-  -- s from 0 up
-  abbrev pub product_up : Span K → Span K → Option (Span K)
-  product_up s t =
-      corners (cond (from_zero t.lower) s.lower s.upper) t.lower (cond (to_zero t.upper) s.lower s.upper) t.upper
-
-  -- s from 0 down
-  abbrev pub product_down : Span K → Span K → Option (Span K)
-  product_down s t =
-      corners (cond (to_zero t.upper) s.upper s.lower) t.upper (cond (from_zero t.lower) s.upper s.lower) t.lower
-
-  abbrev pub both : Option (Span K) → Option (Span K) → Option (Span K)
-  both o p = o >>= (λ s. p >>= (λ t. Some (hull s t)))
-
-  -- 0 inside s
-  abbrev pub product_across : Span K → Span K → Option (Span K)
-  product_across s t =
-      cond (from_zero t.lower) (corners s.lower t.upper s.upper t.upper)
-      (cond (to_zero t.upper) (corners s.upper t.lower s.lower t.lower)
-      (both (corners s.lower t.upper s.upper t.upper) (corners s.upper t.lower s.lower t.lower)))
-
+  -- of the four products of an end of s with an end of t the least, rounded down, and the greatest, rounded up
   abbrev pub product : Span K → Span K → Option (Span K)
-  product s t = cond (from_zero s.lower) (product_up s t) (cond (to_zero s.upper) (product_down s t) (product_across s t))
+  product s t = ends (least_below m s.lower s.upper t.lower t.upper) (greatest_above m s.lower s.upper t.lower t.upper)
 
   abbrev pub magnitude : Span K → Span K
   magnitude s =

@@ -6,24 +6,28 @@ use crate::span::Span;
 use kind::NumberKind;
 
 // Each of these is a line, so none is derived from its mirror image.
+#[inline(always)]
 pub fn lesser_mark<K: NumberKind>(a: K, b: K) -> K
     ensures { result ≡ spans.lesser_mark K.NumberKind.model a b }
 {
     if a.at_most(b) { a } else { b }
 }
 
+#[inline(always)]
 pub fn greater_mark<K: NumberKind>(a: K, b: K) -> K
     ensures { result ≡ spans.greater_mark K.NumberKind.model a b }
 {
     if a.at_most(b) { b } else { a }
 }
 
+#[inline(always)]
 pub fn from_zero<K: NumberKind>(a: K) -> bool
     ensures { result ≡ spans.from_zero K.NumberKind.model a }
 {
     K::zero().at_most(a)
 }
 
+#[inline(always)]
 pub fn to_zero<K: NumberKind>(a: K) -> bool
     ensures { result ≡ spans.to_zero K.NumberKind.model a }
 {
@@ -40,6 +44,7 @@ fn is_nought<K: NumberKind>(a: K) -> bool
 
 impl<K: NumberKind> Span<K> {
     // [v]
+    #[inline(always)]
     pub fn point(v: K) -> Span<K>
         ensures { result ≡ spans.point K.NumberKind.model v }
     {
@@ -47,6 +52,7 @@ impl<K: NumberKind> Span<K> {
     }
 
     // Whether 0 lies in the span, an end included.
+    #[inline(always)]
     pub fn holds_zero(self) -> bool
         ensures { result ≡ spans.holds_zero K.NumberKind.model self }
     {
@@ -74,12 +80,14 @@ impl<K: NumberKind> Span<K> {
     }
 
     // Whether the lower end is not below the other's upper end.
+    #[inline(always)]
     pub fn clears(self, other: Span<K>) -> bool
         ensures { result ≡ spans.clears K.NumberKind.model self other }
     {
         other.upper.at_most(self.lower)
     }
 
+    #[inline(always)]
     pub fn negated(self) -> Span<K>
         ensures { result ≡ spans.negated K.NumberKind.model self }
     {

@@ -13,6 +13,7 @@ pub struct Span<K: NumberKind> {
 }
 
 // The span from two ends that may be absent, if both are there.
+#[inline(always)]
 pub fn ends<K: NumberKind>(lower: Option<K>, upper: Option<K>) -> Option<Span<K>>
     ensures { result ≡ spans.ends K.NumberKind.model lower upper }
 {
