@@ -77,13 +77,13 @@ module _ (x y : ℤ) where
   max_over = chosen y x _ _ (sym in_order_over) refl
 
 module _ (a b c d : Sign) where
-  pub least_is : sign_of (int_min (int_min (whole a *ℤ whole c) (whole a *ℤ whole d)) (int_min (whole b *ℤ whole c) (whole b *ℤ whole d)))
-      ≡ least_below sign_model a b c d
+  pub least_is : sign_of (int_min (int_min (whole a *ℤ whole c) (whole a *ℤ whole d))
+      (int_min (whole b *ℤ whole c) (whole b *ℤ whole d))) ≡ least_below sign_model a b c d
   unfolding over units_over ◌*F◌
   least_is = whole_below _ (lit< tt) ∙ ap (grid_below sign_grid) (sym (ap₂ min_F (min_over _ _) (min_over _ _) ∙ min_over _ _))
 
-  pub greatest_is : sign_of (int_max (int_max (whole a *ℤ whole c) (whole a *ℤ whole d)) (int_max (whole b *ℤ whole c) (whole b *ℤ whole d)))
-      ≡ greatest_above sign_model a b c d
+  pub greatest_is : sign_of (int_max (int_max (whole a *ℤ whole c) (whole a *ℤ whole d))
+      (int_max (whole b *ℤ whole c) (whole b *ℤ whole d))) ≡ greatest_above sign_model a b c d
   unfolding over units_over ◌*F◌
   greatest_is = whole_above _ (lit< tt) ∙ ap (grid_above sign_grid) (sym (ap₂ max_F (max_over _ _) (max_over _ _) ∙ max_over _ _))
 
