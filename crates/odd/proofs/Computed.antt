@@ -1,17 +1,18 @@
 -- What the code of the odd kind computes is rounding.
-use Rattle.std.specs.Prelude.{◌≡◌, zero, suc, ◌<◌, ◌≤◌, ℤ, pos, negsuc, ◌+ℤ◌, ◌*ℤ◌, neg_ℤ, ◌≤ℤ◌, ◌<ℤ◌, Some, None, Option, int_le, unsigned_abs, refl}
-use Rattle.std.proofs.Common.{◌∙◌, ap, subst, sym, arith, lit<, lit≤}
-use Rattle.std.proofs.lemmas.Int.{ints}
-use Rattle.std.specs.Int.{int_div_euclid}
+use Rattle.std.specs.Prelude.{◌≡◌, zero, suc, ◌^◌, ◌<◌, ◌≤◌, ℤ, pos, negsuc, ◌+ℤ◌, ◌*ℤ◌, neg_ℤ, ◌≤ℤ◌, ◌<ℤ◌, Bool, true, false, cond, Some, None, Option, int_le, int_lt, unsigned_abs, refl}
+use Rattle.std.proofs.Common.{◌∙◌, ap, ap₂, subst, sym, arith, w64, to_z, of_z, lit<, lit≤}
+use lib.Signed.{mag}
+use Rattle.std.proofs.lemmas.Int.{ints, to_z-of_z}
+use Rattle.std.specs.Int.{int_div_euclid, int_max, int_min}
 use Rattle.exact.proofs.Floors.{floor_greatest, floor_low}
-use Rattle.exact.proofs.Integers.{≤ℤ_cancel, ≤ℤ_trans}
+use Rattle.exact.proofs.Integers.{leZ_times, ≤ℤ_cancel, ≤ℤ_trans}
 use Rattle.exact.specs.Floor.{ceiling, floor}
-use Rattle.exact.specs.Fraction.{◌*F◌, inv_F, le_F, neg_F, over_top}
+use Rattle.exact.specs.Fraction.{Frac, ◌*F◌, inv_F, le_F, max_F, min_F, neg_F, over_top}
 use Rattle.exact.specs.Optional.{◌>>=◌}
-use Rattle.kind.proofs.GridOps.{below, sum_above_is, sum_below_is}
+use Rattle.kind.proofs.GridOps.{below, product_above_is, product_below_is, sum_above_is, sum_below_is}
 use Rattle.kind.proofs.GridRules.{above_of, ratio_none_over, ratio_none_under, ratio_some}
 use Rattle.kind.specs.Grid.{grid_above, grid_below, grid_value, inside?, units_over}
-use Rattle.kind.specs.Model.{at_most, count, product_above, product_below, quotient_above, quotient_below, sum_above, sum_below}
+use Rattle.kind.specs.Model.{at_most, count, greatest_above, least_below, product_above, product_below, quotient_above, quotient_below, sum_above, sum_below}
 use Rattle.odd.specs.Grid.{negative, sign_grid, sign_model, sign_of, whole}
 use Rattle.odd.specs.declared.sign.Sign.{Sign}
 use Rattle.odd.specs.declared.sign.Sign.TheVariants.{Minus, Nought, Plus}
@@ -45,43 +46,48 @@ sum_is_below a b = whole_below _ (lit< tt) ∙ sum_below_is sign_grid sign_lawfu
 pub sum_is_above : (a b : Sign) → sign_of (whole a +ℤ whole b) ≡ sum_above sign_model a b
 sum_is_above a b = whole_above _ (lit< tt) ∙ sum_above_is sign_grid sign_lawful a b (lit< tt)
 
--- ---- products and quotients by each mark
-pub product_minus_below : (a : Sign) → Some (negative a) ≡ product_below sign_model a Minus
-unfolding sign_of grid_below inside? floor le_F neg_F ◌*F◌
-product_minus_below Minus = refl
-product_minus_below Nought = refl
-product_minus_below Plus = refl
+pub product_is_below : (a b : Sign) → sign_of (whole a *ℤ whole b) ≡ product_below sign_model a b
+product_is_below a b = whole_below _ (lit< tt) ∙ product_below_is sign_grid sign_lawful a b
 
-pub product_minus_above : (a : Sign) → Some (negative a) ≡ product_above sign_model a Minus
-unfolding sign_of grid_above grid_below inside? floor le_F neg_F ◌*F◌
-product_minus_above Minus = refl
-product_minus_above Nought = refl
-product_minus_above Plus = refl
+pub product_is_above : (a b : Sign) → sign_of (whole a *ℤ whole b) ≡ product_above sign_model a b
+product_is_above a b = whole_above _ (lit< tt) ∙ product_above_is sign_grid sign_lawful a b
 
-pub product_nought_below : (a : Sign) → Some Nought ≡ product_below sign_model a Nought
-unfolding sign_of grid_below inside? floor le_F neg_F ◌*F◌
-product_nought_below Minus = refl
-product_nought_below Nought = refl
-product_nought_below Plus = refl
+-- ---- the least and the greatest of products
+over : ℤ → Frac
+over z = units_over sign_grid z 1 (lit< tt)
 
-pub product_nought_above : (a : Sign) → Some Nought ≡ product_above sign_model a Nought
-unfolding sign_of grid_above grid_below inside? floor le_F neg_F ◌*F◌
-product_nought_above Minus = refl
-product_nought_above Nought = refl
-product_nought_above Plus = refl
+module _ (x y : ℤ) where
+  in_order_over : le_F (over x) (over y) ≡ int_le x y
+  unfolding over le_F units_over
+  in_order_over = leZ_times x y 1 (lit< tt)
 
-pub product_plus_below : (a : Sign) → Some a ≡ product_below sign_model a Plus
-unfolding sign_of grid_below inside? floor le_F neg_F ◌*F◌
-product_plus_below Minus = refl
-product_plus_below Nought = refl
-product_plus_below Plus = refl
+  -- the test of the code is the other way round
+  chosen : (u v : ℤ) (s t : Bool) → int_le x y ≡ s → int_lt y x ≡ t → cond s (over u) (over v) ≡ over (cond t v u)
+  chosen u v true true p q = absurd (omega (arith, ints))
+  chosen u v true false p q = refl
+  chosen u v false true p q = refl
+  chosen u v false false p q = absurd (omega (arith, ints))
 
-pub product_plus_above : (a : Sign) → Some a ≡ product_above sign_model a Plus
-unfolding sign_of grid_above grid_below inside? floor le_F neg_F ◌*F◌
-product_plus_above Minus = refl
-product_plus_above Nought = refl
-product_plus_above Plus = refl
+  min_over : min_F (over x) (over y) ≡ over (int_min x y)
+  unfolding min_F
+  min_over = chosen x y _ _ (sym in_order_over) refl
 
+  max_over : max_F (over x) (over y) ≡ over (int_max x y)
+  unfolding max_F
+  max_over = chosen y x _ _ (sym in_order_over) refl
+
+module _ (a b c d : Sign) where
+  pub least_is : sign_of (int_min (int_min (whole a *ℤ whole c) (whole a *ℤ whole d))
+      (int_min (whole b *ℤ whole c) (whole b *ℤ whole d))) ≡ least_below sign_model a b c d
+  unfolding over units_over ◌*F◌
+  least_is = whole_below _ (lit< tt) ∙ ap (grid_below sign_grid) (sym (ap₂ min_F (min_over _ _) (min_over _ _) ∙ min_over _ _))
+
+  pub greatest_is : sign_of (int_max (int_max (whole a *ℤ whole c) (whole a *ℤ whole d))
+      (int_max (whole b *ℤ whole c) (whole b *ℤ whole d))) ≡ greatest_above sign_model a b c d
+  unfolding over units_over ◌*F◌
+  greatest_is = whole_above _ (lit< tt) ∙ ap (grid_above sign_grid) (sym (ap₂ max_F (max_over _ _) (max_over _ _) ∙ max_over _ _))
+
+-- ---- quotients by each mark
 pub quotient_minus_below : (a : Sign) → Some (negative a) ≡ quotient_below sign_model a Minus
 unfolding sign_of grid_below inside? floor le_F neg_F ◌*F◌ inv_F over_top
 quotient_minus_below Minus = refl
@@ -122,6 +128,9 @@ in_order Plus Plus = refl
 -- what the code computes, at the numbers that are meant
 pub at_sign : (r : Option Sign) (z n : ℤ) → r ≡ sign_of z → z ≡ n → r ≡ sign_of n
 at_sign r z n p e = p ∙ ap sign_of e
+
+pub plain : (r z : ℤ) → r ≡ z → mag r < 2 ^ 63 → to_z w64 (of_z w64 r) ≡ z
+plain r z e h = to_z-of_z w64 r (omega (arith, ints)) ∙ e
 
 pub at_above : (r : Option Sign) (z n : ℤ) → r ≡ grid_below sign_grid (count z) → z ≡ neg_ℤ n → (r >>= (λ s. Some (negative s))) ≡ grid_above sign_grid (count n)
 unfolding grid_above neg_F

@@ -1,5 +1,5 @@
 // The odd kind keeps the rules of a kind.
-ghost use Rattle.std.specs.Prelude.{◌≡◌};
+ghost use Rattle.std.specs.Prelude.{◌≡◌, ◌*ℤ◌};
 ghost use Rattle.exact.specs.Floor.{ceiling, floor};
 ghost use Rattle.kind.specs.Model as kinds;
 ghost use Rattle.odd.specs.Grid.{sign_model, sign_of};
@@ -46,18 +46,20 @@ fn sum(a: Sign, b: Sign) -> Option<Sign>
     marked(whole(a) + whole(b))
 }
 
+fn times(a: Sign, b: Sign) -> i64
+    ensures { result ≡ signs.whole a *ℤ signs.whole b }
+{
+    whole(a) * whole(b)
+}
+
 fn product(a: Sign, b: Sign) -> Option<Sign>
     ensures below { result ≡ kinds.product_below sign_model a b }
     ensures above { result ≡ kinds.product_above sign_model a b }
 {
-    match b {
-        Sign::Minus => Some(opposite(a)),
-        Sign::Nought => Some(b),
-        Sign::Plus => Some(a),
-    }
+    marked(times(a, b))
 }
 
-// As the product, but absent for 0; by `product` it would be no shorter.
+// The quotient by −1 and by 1 is the product; by 0 there is none.
 fn quotient(a: Sign, b: Sign) -> Option<Sign>
     ensures below { result ≡ kinds.quotient_below sign_model a b }
     ensures above { result ≡ kinds.quotient_above sign_model a b }
@@ -124,6 +126,18 @@ impl NumberKind for Sign {
 
     fn product_above(self, other: Sign) -> Option<Sign> {
         product(self, other)
+    }
+
+    fn least_below(a: Sign, b: Sign, c: Sign, d: Sign) -> Option<Sign> {
+        let from_a = times(a, c).min(times(a, d));
+        let from_b = times(b, c).min(times(b, d));
+        marked(from_a.min(from_b))
+    }
+
+    fn greatest_above(a: Sign, b: Sign, c: Sign, d: Sign) -> Option<Sign> {
+        let from_a = times(a, c).max(times(a, d));
+        let from_b = times(b, c).max(times(b, d));
+        marked(from_a.max(from_b))
     }
 
     fn quotient_below(self, other: Sign) -> Option<Sign> {

@@ -1,11 +1,8 @@
-use Rattle.odd.proofs.Computed.{product_minus_above, product_minus_below, product_nought_above, product_nought_below, product_plus_above, product_plus_below}
+use Rattle.std.proofs.Common.{◌∙◌}
+use Rattle.odd.proofs.Computed.{at_sign, plain, product_is_above, product_is_below}
 use Rattle.odd.proofs.arithmetic.product.Goals as goal
 
-pub returns-in-Minus : goal.returns-in-Minus
-returns-in-Minus c = rw (c.in-Minus.is, c.opposite.ensures) record { below = product_minus_below _; above = product_minus_above _ }
-
-pub returns-in-Nought : goal.returns-in-Nought
-returns-in-Nought c = rw c.in-Nought.is record { below = product_nought_below _; above = product_nought_above _ }
-
-pub returns-in-Plus : goal.returns-in-Plus
-returns-in-Plus c = rw c.in-Plus.is record { below = product_plus_below _; above = product_plus_above _ }
+pub returns : goal.returns
+returns c =
+    let e = at_sign _ _ _ c.marked.ensures (plain _ _ c.times.ensures c.times.type_inv) in
+    record { below = e ∙ product_is_below _ _; above = e ∙ product_is_above _ _ }
