@@ -37,24 +37,13 @@ impl Product {
         if self.n <= other.n { other } else { self }
     }
 
-    // The greatest mark not above the product. Where its upper 64 bits are within these bounds, it is from −T to T for sure.
+    // The greatest mark not above the product. Mostly the upper 64 bits tell that it is from −T to T.
     #[inline(always)]
     pub fn below(self) -> Option<Sliding>
         ensures { result ≡ products.below self.n }
     {
         let upper = (self.n >> 64) as i64;
-        if upper < -65_535 || upper > 65_534 {
-            return self.tested();
-        }
-        Some(cut((self.n >> 24) as i64))
-    }
-
-    // The same where T is near or passed.
-    #[inline(never)]
-    fn tested(self) -> Option<Sliding>
-        ensures { result ≡ products.below self.n }
-    {
-        if self.n.unsigned_abs() > u128::from(TOP) << 24 {
+        if (upper < -65_535 || upper > 65_534) && self.n.unsigned_abs() > u128::from(TOP) << 24 {
             return None;
         }
         Some(cut((self.n >> 24) as i64))
