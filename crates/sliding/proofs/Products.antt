@@ -31,7 +31,8 @@ module _ (n : ℤ) (b : nat_abs n ≤ 2 ^ 112) where
 
   upper_is : upper ≡ int_div_euclid n (pos (2 ^ 64))
   upper_is = let p = floor_low n (2 ^ 64) (lit< tt) in let q = floor_next n (2 ^ 64) (lit< tt) in
-      ap (λ (z : ℤ). to_z w64 (of_z w64 z)) (plain_shr w128 n 64 fits) ∙ to_z-of_z w64 (int_div_euclid n (pos (2 ^ 64))) (omega (arith, ints))
+      ap (λ (z : ℤ). to_z w64 (of_z w64 z)) (plain_shr w128 n 64 fits)
+      ∙ to_z-of_z w64 (int_div_euclid n (pos (2 ^ 64))) (omega (arith, ints))
 
   pub within : neg_ℤ (pos 65535) ≤ℤ upper → upper ≤ℤ pos 65534 → nat_abs n ≤ 72057589742960640 * 16777216
   within l h = let e = upper_is in let p = floor_low n (2 ^ 64) (lit< tt) in let q = floor_next n (2 ^ 64) (lit< tt) in omega (arith, ints)

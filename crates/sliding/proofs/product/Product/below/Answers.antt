@@ -12,7 +12,8 @@ pub returns : goal.returns
 returns c = c.cut.ensures ∙ is_below c.args.self.n c.args.self.bounded (elim c.else-upper-gt65534.branch [
   | else-upper-gt65534-via-then-upper-gt65534+else-beyond w ↦ ltb-false _ _ (sym w.beyond.ensures ∙ w.if-beyond.false)
   | else-upper-gt65534-via-else-upper-gt65534 w ↦ elim c.if-upper-ltminus65535.branch [
-    | then-upper-ltminus65535 v ↦ absurd (let h = v.if-upper-ltminus65535.true in let k = v.value-is in let l = w.if-upper-gt65534.false in cc)
+    | then-upper-ltminus65535 v ↦ absurd
+        (let h = v.if-upper-ltminus65535.true in let k = v.value-is in let l = w.if-upper-gt65534.false in cc)
     | else-upper-ltminus65535 v ↦ within c.args.self.n c.args.self.bounded
         (let h = v.if-upper-ltminus65535.false in omega (arith, ints))
         (let h = sym v.value-is ∙ w.if-upper-gt65534.false in omega (arith, ints))
