@@ -1,23 +1,27 @@
 -- What the masks leave of a number.
-use Rattle.std.proofs.Common.{◌≡◌, ℕ, zero, suc, ◌+◌, ◌-◌, ◌*◌, ◌/◌, ◌^◌, ◌<◌, ◌≤◌, List, [], ◌∷◌, get_or, bit_and, ℤ, pos, negsuc, neg_ℤ, nat_abs, sym, ap, ◌∙◌, arith, pow_mono, pow_pos, pow-add, le_of_mul-le-mul_right, w64, SFits, to_z, of_z}
+use Rattle.std.proofs.Common.{◌≡◌, ℕ, zero, suc, ◌+◌, ◌-◌, ◌*◌, ◌/◌, ◌^◌, ◌<◌, ◌≤◌, List, [], ◌∷◌, get_or, bit_and, ℤ, pos, negsuc, neg_ℤ, nat_abs, refl, sym, ap, ◌∙◌, arith, pow_mono, pow_pos, pow-add, le_of_mul-le-mul_right, w64, SFits, to_z, of_z}
 use borrow.Author.Differences.{ints}
 use Rattle.std.proofs.lemmas.Int.{to_z-of_z, to_z_pos}
 use Rattle.std.proofs.lemmas.Nat.{shr_high}
 use Rattle.std.proofs.lemmas.Nat.Bits.{and_high_mask}
 use Rattle.sliding.specs.Cut.{cut}
 
--- ---- −2^s at each s
-abbrev from : ℕ → ℕ → List ℤ
-from k zero = []
-from k (suc n) = neg_ℤ (pos (2 ^ k)) ∷ from (suc k) n
+-- ---- −2^s from a greatest s down to 0
+abbrev from : ℕ → List ℤ
+from zero = neg_ℤ (pos (2 ^ 0)) ∷ []
+from (suc n) = neg_ℤ (pos (2 ^ suc n)) ∷ from n
 
 abbrev pub masks : List ℤ
-masks = from 0 33
+masks = from 40
 
-from_at : (n k i : ℕ) → i < n → get_or (from k n) i (pos 0) ≡ neg_ℤ (pos (2 ^ (k + i)))
-from_at zero k i h = absurd (omega arith)
-from_at (suc n) k zero h = ap (λ (j : ℕ). neg_ℤ (pos (2 ^ j))) (omega arith)
-from_at (suc n) k (suc i) h = from_at n (suc k) i (omega arith) ∙ ap (λ (j : ℕ). neg_ℤ (pos (2 ^ j))) (omega arith)
+from_at : (n s : ℕ) → s ≤ n → get_or (from n) (n - s) (pos 0) ≡ neg_ℤ (pos (2 ^ s))
+from_at n s h = go n (n - s) (omega arith) ∙ ap (λ (j : ℕ). neg_ℤ (pos (2 ^ j))) (omega arith)
+  where
+    go : (n i : ℕ) → i ≤ n → get_or (from n) i (pos 0) ≡ neg_ℤ (pos (2 ^ (n - i)))
+    go zero zero l = refl
+    go zero (suc i) l = absurd (omega arith)
+    go (suc n) zero l = ap (λ (j : ℕ). neg_ℤ (pos (2 ^ j))) (omega arith)
+    go (suc n) (suc i) l = go n i (omega arith) ∙ ap (λ (j : ℕ). neg_ℤ (pos (2 ^ j))) (omega arith)
 
 -- ---- a mask clears the lowest s bits
 cleared : (x s : ℕ) → s ≤ 62 → x < 2 ^ 64 → bit_and x (of_z w64 (neg_ℤ (pos (2 ^ s)))) ≡ x / 2 ^ s * 2 ^ s
@@ -64,8 +68,8 @@ cleared_cut (pos a) s f q b = to_z_pos w64 (a / 2 ^ s * 2 ^ s) b
 cleared_cut (negsuc a) s f q b = negative a s q (rw abs_minus at b)
 
 pub masked : (k : ℤ) (s : ℕ) → SFits w64 k → s < 33 → nat_abs (cut k s) < 2 ^ 63
-    → to_z w64 (bit_and (of_z w64 k) (of_z w64 (get_or masks s (pos 0)))) ≡ cut k s
+    → to_z w64 (bit_and (of_z w64 k) (of_z w64 (get_or masks (40 - s) (pos 0)))) ≡ cut k s
 masked k s f q b =
-    ap (λ (m : ℤ). to_z w64 (bit_and (of_z w64 k) (of_z w64 m))) (from_at 33 0 s q ∙ ap (λ (j : ℕ). neg_ℤ (pos (2 ^ j))) (omega arith))
+    ap (λ (m : ℤ). to_z w64 (bit_and (of_z w64 k) (of_z w64 m))) (from_at 40 s (omega arith))
     ∙ ap (to_z w64) (cleared (of_z w64 k) s (omega arith) (omega (arith, ints)))
     ∙ cleared_cut k s f (omega arith) b

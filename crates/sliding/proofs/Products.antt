@@ -1,10 +1,11 @@
 -- The products of the sliding kind.
-use Rattle.std.proofs.Common.{◌≡◌, ◌*◌, ◌^◌, ◌<◌, ◌≤◌, Bool, true, false, cond, ℤ, pos, ◌*ℤ◌, nat_abs, None, sym, refl, ap, ap₂, ◌∙◌, arith, lit<, w64, SFits, to_z, of_z}
+use Rattle.std.proofs.Common.{◌≡◌, ◌*◌, ◌^◌, ◌<◌, ◌≤◌, Bool, true, false, cond, ℤ, pos, ◌*ℤ◌, neg_ℤ, ◌≤ℤ◌, nat_abs, None, sym, refl, ap, ap₂, ◌∙◌, arith, lit<, w64, SFits, to_z, of_z}
 use Rattle.std.specs.Prelude.{int_le}
 use borrow.Author.Differences.{ints}
 use lib.Signed.{shr_z}
 use Rattle.std.proofs.lemmas.Int.{to_z-of_z}
 use Rattle.std.specs.Int.{int_div_euclid, w128}
+use Rattle.exact.proofs.Floors.{floor_low, floor_next}
 use Rattle.exact.proofs.Integers.{leZ_times}
 use Rattle.exact.specs.Fraction.{Frac, ◌*F◌, le_F, max_F, min_F}
 use Rattle.kind.specs.Grid.{grid_above, grid_below, grid_value, units_over}
@@ -23,6 +24,18 @@ module _ (n : ℤ) (b : nat_abs n ≤ 2 ^ 112) where
 
   pub no_mark : 72057589742960640 * 16777216 < nat_abs n → None ≡ products.below n
   no_mark h = ratio_none n 16777216 (lit< tt) h
+
+  -- its upper 64 bits tell that it is from −T to T
+  abbrev upper : ℤ
+  upper = to_z w64 (of_z w64 (to_z w128 (of_z w128 (shr_z (to_z w128 (of_z w128 n)) (2 ^ 64)))))
+
+  upper_is : upper ≡ int_div_euclid n (pos (2 ^ 64))
+  upper_is = let p = floor_low n (2 ^ 64) (lit< tt) in let q = floor_next n (2 ^ 64) (lit< tt) in
+      ap (λ (z : ℤ). to_z w64 (of_z w64 z)) (plain_shr w128 n 64 fits)
+      ∙ to_z-of_z w64 (int_div_euclid n (pos (2 ^ 64))) (omega (arith, ints))
+
+  pub within : neg_ℤ (pos 65535) ≤ℤ upper → upper ≤ℤ pos 65534 → nat_abs n ≤ 72057589742960640 * 16777216
+  within l h = let e = upper_is in let p = floor_low n (2 ^ 64) (lit< tt) in let q = floor_next n (2 ^ 64) (lit< tt) in omega (arith, ints)
 
   -- the whole units in it
   module _ (h : nat_abs n ≤ 72057589742960640 * 16777216) where

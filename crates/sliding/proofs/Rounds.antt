@@ -39,17 +39,20 @@ module _ (k : ℤ) (s : ℕ) (f : SFits w64 k) (b : nat_abs k ≤ 72057589742960
   short : s ≤ 32
   short = scale_short right b
 
-  pub mask_there : s < 33
-  mask_there = let l = short in omega arith
+  pub scale_there : s < 33
+  scale_there = let l = short in omega arith
+
+  pub mask_there : 40 - s < 41
+  mask_there = omega arith
 
   on : OnGrid (cut k s)
   on = on_cut k s b right.under short
 
   abbrev kept : ℤ
-  kept = to_z w64 (bit_and (of_z w64 k) (of_z w64 (get_or masks s (pos 0))))
+  kept = to_z w64 (bit_and (of_z w64 k) (of_z w64 (get_or masks (40 - s) (pos 0))))
 
   is_cut : kept ≡ cut k s
-  is_cut = let o = on.0 in masked k s f mask_there (omega arith)
+  is_cut = let o = on.0 in masked k s f scale_there (omega arith)
 
   pub is_mark : OnGrid kept
   is_mark = subst OnGrid (sym is_cut) on

@@ -94,7 +94,8 @@ fn quotient(a: Sliding, b: Sliding) -> Option<Sliding>
     over(a, b).below()
 }
 
-// Each operation is a line, as in the fixed kind: its exact result, rounded. A trait between the two and `NumberKind` would be longer.
+// Each operation is a line or a few, as in the fixed kind: its exact result, rounded. A trait between the two and `NumberKind` would be
+// longer.
 impl NumberKind for Sliding {
     ghost model = { sliding_model };
 

@@ -1,5 +1,5 @@
 // The exact product of two marks, and its rounding to a mark.
-ghost use Rattle.std.specs.Prelude.{◌≡◌, ◌*ℤ◌, ◌^◌, ◌≤◌, unsigned_abs};
+ghost use Rattle.std.specs.Prelude.{◌≡◌, ◌*ℤ◌, ◌^◌, ◌≤◌, nat_lt, unsigned_abs};
 
 use crate::mark::Sliding;
 use crate::rounding::{TOP, cut};
@@ -37,12 +37,22 @@ impl Product {
         if self.n <= other.n { other } else { self }
     }
 
-    // The greatest mark not above the product.
+    // Whether it is beyond −T or T.
+    #[cold]
+    #[inline(never)]
+    fn beyond(self) -> bool
+        ensures { result ≡ nat_lt 1208925747557035136778240 (unsigned_abs self.n) }
+    {
+        self.n.unsigned_abs() > u128::from(TOP) << 24
+    }
+
+    // The greatest mark not above the product. Mostly the upper 64 bits tell that it is from −T to T.
     #[inline(always)]
     pub fn below(self) -> Option<Sliding>
         ensures { result ≡ products.below self.n }
     {
-        if self.n.unsigned_abs() > u128::from(TOP) << 24 {
+        let upper = (self.n >> 64) as i64;
+        if (upper < -65_535 || upper > 65_534) && self.beyond() {
             return None;
         }
         Some(cut((self.n >> 24) as i64))

@@ -18,41 +18,49 @@ pub fn scale_of(k: i64) -> u32
     40 - (k.unsigned_abs() | 0xFF_FFFF).leading_zeros()
 }
 
-// The mask at s clears the lowest s bits.
-static MASKS: [i64; 33] = [
-    -1 << 0,
-    -1 << 1,
-    -1 << 2,
-    -1 << 3,
-    -1 << 4,
-    -1 << 5,
-    -1 << 6,
-    -1 << 7,
-    -1 << 8,
-    -1 << 9,
-    -1 << 10,
-    -1 << 11,
-    -1 << 12,
-    -1 << 13,
-    -1 << 14,
-    -1 << 15,
-    -1 << 16,
-    -1 << 17,
-    -1 << 18,
-    -1 << 19,
-    -1 << 20,
-    -1 << 21,
-    -1 << 22,
-    -1 << 23,
-    -1 << 24,
-    -1 << 25,
-    -1 << 26,
-    -1 << 27,
-    -1 << 28,
-    -1 << 29,
-    -1 << 30,
-    -1 << 31,
+// The mask at 40 − s, which is a count of leading zeros, clears the lowest s bits.
+static MASKS: [i64; 41] = [
+    -1 << 40,
+    -1 << 39,
+    -1 << 38,
+    -1 << 37,
+    -1 << 36,
+    -1 << 35,
+    -1 << 34,
+    -1 << 33,
     -1 << 32,
+    -1 << 31,
+    -1 << 30,
+    -1 << 29,
+    -1 << 28,
+    -1 << 27,
+    -1 << 26,
+    -1 << 25,
+    -1 << 24,
+    -1 << 23,
+    -1 << 22,
+    -1 << 21,
+    -1 << 20,
+    -1 << 19,
+    -1 << 18,
+    -1 << 17,
+    -1 << 16,
+    -1 << 15,
+    -1 << 14,
+    -1 << 13,
+    -1 << 12,
+    -1 << 11,
+    -1 << 10,
+    -1 << 9,
+    -1 << 8,
+    -1 << 7,
+    -1 << 6,
+    -1 << 5,
+    -1 << 4,
+    -1 << 3,
+    -1 << 2,
+    -1 << 1,
+    -1 << 0,
 ];
 
 // The greatest mark not above k units. A negative k may be cut to −2^24 × 2^s, which is −2^23 × 2^(s + 1).
@@ -62,7 +70,7 @@ pub fn cut(k: i64) -> Sliding
     ensures { Some result ≡ whole.below k }
 {
     Sliding {
-        units: k & MASKS[scale_of(k) as usize],
+        units: k & MASKS[(40 - scale_of(k)) as usize],
     }
 }
 
