@@ -3,7 +3,7 @@ use Rattle.std.proofs.Common.{◌≡◌, zero, suc, ◌<◌, ◌⊎◌, [], ◌�
 use borrow.Author.Differences.{ints}
 use Rattle.exact.proofs.Fractions.{ring_F}
 use Rattle.exact.proofs.Integers.{≤ℤ_cancel}
-use Rattle.exact.proofs.Order.{NN, le_by, le→nn, lt_or_le, nn_add, nn_mul, nn-≈, ≤F_antisym, ≤F-≈}
+use Rattle.exact.proofs.Order.{NN, le_by, le→nn, lt_or_le, nn_add, nn_mul, nn-≈, ≤F_antisym}
 use Rattle.exact.proofs.Ring.{◌⊕◌, ◌⊖◌, ◌⊗◌, num, x0, x1, x2, x3, ⊝◌}
 use Rattle.exact.specs.Fraction.{Frac, Nonzero, ◌*F◌, ◌+F◌, ◌-F◌, ◌<F◌, ◌≈◌, ◌≤F◌, neg_F, whole}
 
@@ -106,13 +106,3 @@ corner_low a b p q h k = le_by (a ∷ b ∷ p ∷ q ∷ []) (x2 ⊗ x3) (x0 ⊗ 
 
 pub corner_high : (a b p q : Frac) → NN (a *F (q -F b)) → NN (q *F (p -F a)) → (a *F b) ≤F (p *F q)
 corner_high a b p q h k = le_by (a ∷ b ∷ p ∷ q ∷ []) (x0 ⊗ x1) (x2 ⊗ x3) (x0 ⊗ (x3 ⊖ x1) ⊕ x3 ⊗ (x2 ⊖ x0)) refl (nn_add h k)
-
--- the same by the other way round: along b first
-turn : (x y : Frac) → (x *F y) ≈ (y *F x)
-turn x y = ring_F (x ∷ y ∷ []) (x0 ⊗ x1) (x1 ⊗ x0) refl
-
-pub corner_low' : (a b p q : Frac) → NN (b *F (a -F p)) → NN (p *F (b -F q)) → (p *F q) ≤F (a *F b)
-corner_low' a b p q h k = ≤F-≈ (turn q p) (turn b a) (corner_low b a q p h k)
-
-pub corner_high' : (a b p q : Frac) → NN (b *F (p -F a)) → NN (p *F (q -F b)) → (a *F b) ≤F (p *F q)
-corner_high' a b p q h k = ≤F-≈ (turn b a) (turn q p) (corner_high b a q p h k)

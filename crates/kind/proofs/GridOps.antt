@@ -1,5 +1,5 @@
 -- The operations of a grid as ratios of whole numbers of units. `round` stands for either direction.
-use Rattle.std.proofs.Common.{◌≡◌, ℕ, zero, suc, ◌<◌, [], ◌∷◌, ℤ, pos, ◌+ℤ◌, ◌*ℤ◌, neg_ℤ, None, Option, sym, refl, ap, ◌∙◌, arith}
+use Rattle.std.proofs.Common.{◌≡◌, ℕ, zero, suc, ◌<◌, [], ◌∷◌, ℤ, pos, ◌+ℤ◌, ◌*ℤ◌, neg_ℤ, Option, sym, refl, ap, ◌∙◌, arith}
 use Rattle.exact.specs.Optional.{◌>>=◌}
 use Rattle.exact.specs.Fraction.{Frac, ◌+F◌, ◌*F◌, inv_F, over_top, unless_nought, inverse, ◌≈◌}
 use Rattle.exact.proofs.Ring.{num, x0, x1, x2, ◌⊗◌, ◌⊕◌, ⊝◌}
@@ -41,9 +41,6 @@ module _ {K : Type 0} (g : Grid K) where
     unfolding inv_F quotient_of
     by_neg b d h e = quotient_neg d h ∙ ap quotient_of (sym e)
 
-    by_nought : (b : K) → g.size b ≡ pos 0 → None ≡ (inverse (grid_value g b) >>= (λ i. round (grid_value g a *F i)))
-    by_nought b e = ap (λ (z : ℤ). unless_nought z (inv_F (grid_value g b)) >>= (λ i. round (grid_value g a *F i))) (sym e)
-
   module _ (l : Lawful g) where
     pub below : (x y : Frac) → x ≈ y → grid_below g x ≡ grid_below g y
     below x y e = below_cong (grid_model g) (grid_rules g l) e
@@ -74,9 +71,3 @@ module _ {K : Type 0} (g : Grid K) where
 
     pub quotient_above_neg : (a b : K) (d : ℕ) (h : 0 < d) → g.size b ≡ neg_ℤ (pos d) → grid_above g (units_over g (neg_ℤ (g.size a) *ℤ pos g.unit) d h) ≡ quotient_above (grid_model g) a b
     quotient_above_neg a b d h e = by_neg (grid_above g) above a b d h e
-
-    pub quotient_below_nought : (a b : K) → g.size b ≡ pos 0 → None ≡ quotient_below (grid_model g) a b
-    quotient_below_nought a b e = by_nought (grid_below g) below a b e
-
-    pub quotient_above_nought : (a b : K) → g.size b ≡ pos 0 → None ≡ quotient_above (grid_model g) a b
-    quotient_above_nought a b e = by_nought (grid_above g) above a b e

@@ -78,6 +78,10 @@ module _ {K : Type 0} (m : Model K) where
   abbrev pub greatest_above : K → K → K → K → Option K
   greatest_above a b c d = m.above (greatest_product a b c d)
 
+  -- the least rounded down and the greatest rounded up
+  abbrev pub product_ends : K → K → K → K → Option (K × K)
+  product_ends a b c d = least_below a b c d >>= (λ l. greatest_above a b c d >>= (λ u. Some (l, u)))
+
   abbrev pub quotient_below : K → K → Option K
   quotient_below a b = inverse (m.value b) >>= (λ i. m.below (m.value a *F i))
 

@@ -35,11 +35,8 @@ pub trait NumberKind: Copy {
         ensures { result ≡ kinds.product_above model self other };
 
     // Of the products of a and b with c and d the least, rounded down, and the greatest, rounded up: the ends of a product of spans.
-    fn least_below(a: Self, b: Self, c: Self, d: Self) -> Option<Self>
-        ensures { result ≡ kinds.least_below model a b c d };
-
-    fn greatest_above(a: Self, b: Self, c: Self, d: Self) -> Option<Self>
-        ensures { result ≡ kinds.greatest_above model a b c d };
+    fn product_ends(a: Self, b: Self, c: Self, d: Self) -> Option<(Self, Self)>
+        ensures { result ≡ kinds.product_ends model a b c d };
 
     fn quotient_below(self, other: Self) -> Option<Self>
         ensures { result ≡ kinds.quotient_below model self other };
