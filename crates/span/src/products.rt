@@ -17,15 +17,14 @@ pub fn corners<K: NumberKind>(a: K, b: K, c: K, d: K) -> Option<Span<K>>
 }
 
 impl<K: NumberKind> Span<K> {
-    // No branch on signs, which are hard to foresee. (Two steps, as in `corners`.)
+    // No branch on signs, which are hard to foresee.
     #[tactic(auto, using(crate::proofs::Lawful::product_law))]
     #[inline(always)]
     pub fn product(self, other: Span<K>) -> Option<Span<K>>
         ensures value { result ≡ spans.product K.NumberKind.model self other }
         ensures narrowest { ProductLaw K.NumberKind.model self other result }
     {
-        let lower = K::least_below(self.lower, self.upper, other.lower, other.upper)?;
-        let upper = K::greatest_above(self.lower, self.upper, other.lower, other.upper)?;
+        let (lower, upper) = K::product_ends(self.lower, self.upper, other.lower, other.upper)?;
         Some(Span { lower, upper })
     }
 
@@ -36,8 +35,7 @@ impl<K: NumberKind> Span<K> {
         ensures right { result ≡ spans.product K.NumberKind.model self (spans.point K.NumberKind.model k) }
         ensures left { result ≡ spans.product K.NumberKind.model (spans.point K.NumberKind.model k) self }
     {
-        let lower = K::least_below(self.lower, self.upper, k, k)?;
-        let upper = K::greatest_above(self.lower, self.upper, k, k)?;
+        let (lower, upper) = K::product_ends(self.lower, self.upper, k, k)?;
         Some(Span { lower, upper })
     }
 }

@@ -5,4 +5,4 @@ use Rattle.span.proofs.span.Span.product.Goals as goal
 
 pub returns-clause-narrowest : goal.returns-clause-narrowest
 returns-clause-narrowest g c =
-    product_law g.K.NumberKind.model g.met.K.NumberKind.rules _ _ (Some (span g.K.NumberKind.model c.in_ok-lower.lower c.in_ok-upper.upper)) (search rules)
+    product_law g.K.NumberKind.model g.met.K.NumberKind.rules _ _ (Some (span g.K.NumberKind.model c.in_ok-lower.lower c.in_ok-lower.upper)) (search rules)
