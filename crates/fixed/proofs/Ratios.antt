@@ -1,5 +1,5 @@
 -- What the code computes in 64 bits, as ratios of counts.
-use Rattle.std.proofs.Common.{◌≡◌, ℕ, ◌*◌, ◌^◌, ◌<◌, ◌≤◌, Bool, cond, [], ◌∷◌, ℤ, pos, negsuc, ◌+ℤ◌, ◌-ℤ◌, ◌*ℤ◌, neg_ℤ, nat_abs, ◌≤ℤ◌, ◌<ℤ◌, Some, None, w32, w64, to_z, of_z, sym, refl, ap, ◌∙◌, subst, arith, lit<}
+use Rattle.std.proofs.Common.{◌≡◌, ℕ, ◌*◌, ◌^◌, ◌<◌, ◌≤◌, Bool, cond, [], ◌∷◌, ℤ, pos, negsuc, ◌+ℤ◌, ◌-ℤ◌, ◌*ℤ◌, neg_ℤ, nat_abs, ◌≤ℤ◌, ◌<ℤ◌, Some, None, Option, w32, w64, to_z, of_z, sym, refl, ap, ◌∙◌, subst, arith, lit<}
 use borrow.Author.Differences.{ints}
 use lib.IntN.{neg_ℤ-neg_ℤ}
 use lib.Signed.{le_z, shr_z}
@@ -16,7 +16,7 @@ use Rattle.kind.specs.Grid.{grid_above, grid_below, grid_value, units_over}
 use Rattle.kind.specs.Model.{count}
 use Rattle.fixed.specs.Rules.{fixed_lawful, same_mark}
 use Rattle.fixed.specs.Grid.{Count, fixed_grid}
-use Rattle.fixed.specs.Ratios.{product}
+use Rattle.fixed.specs.Ratios.{pair, product}
 use Rattle.fixed.specs.declared.mark.Fixed.{Fixed}
 use Rattle.fixed.specs.declared.ratio.Product.{Product}
 
@@ -31,6 +31,20 @@ fixed_some n d h k e p = ratio_some fixed_grid fixed_lawful n d h k
 pub fixed_none : (n : ℤ) (d : ℕ) (h : 0 < d) → 1073741823 * d < nat_abs n → None ≡ grid_below fixed_grid (units_over fixed_grid n d h)
 fixed_none (pos a) d h p = ratio_none_over fixed_grid fixed_lawful (pos a) d h (omega (arith, ints))
 fixed_none (negsuc a) d h p = ratio_none_under fixed_grid fixed_lawful (negsuc a) d h (omega (arith, ints))
+
+pub above_none : (n : ℤ) (d : ℕ) (h : 0 < d) → 1073741823 * d < nat_abs n → None ≡ grid_above fixed_grid (units_over fixed_grid n d h)
+above_none n d h p = above_of fixed_grid fixed_lawful n (neg_ℤ n) d h None refl (fixed_none (neg_ℤ n) d h (omega (arith, ints)))
+
+-- a pair is absent where one of the two is
+none_of : (p : Option Fixed) → None ≡ pair p None
+none_of None = refl
+none_of (Some l) = refl
+
+pub none_first : (p q : Option Fixed) → None ≡ p → None ≡ pair p q
+none_first p q e = ap (λ (o : Option Fixed). pair o q) e
+
+pub none_second : (p q : Option Fixed) → None ≡ q → None ≡ pair p q
+none_second p q e = none_of p ∙ ap (pair p) e
 
 -- the floor of a product is a shift
 shift_plain : (n : ℤ) → nat_abs n ≤ 1073741823 * 65536 → to_z w32 (of_z w32 (to_z w64 (of_z w64 (shr_z n 65536)))) ≡ int_div_euclid n (pos 65536)
@@ -135,7 +149,7 @@ pub beyond_below : (n : ℤ) → 1073741823 < nat_abs n → None ≡ grid_below 
 beyond_below n p = fixed_none n 1 (lit< tt) p ∙ below_count n
 
 pub beyond_above : (n : ℤ) → 1073741823 < nat_abs n → None ≡ grid_above fixed_grid (count n)
-beyond_above n p = above_of fixed_grid fixed_lawful n (neg_ℤ n) 1 (lit< tt) None refl (fixed_none (neg_ℤ n) 1 (lit< tt) (omega (arith, ints))) ∙ above_count n
+beyond_above n p = above_none n 1 (lit< tt) p ∙ above_count n
 
 -- ---- order and whole numbers
 pub le_count : (a b : Fixed) → le_F (grid_value fixed_grid a) (grid_value fixed_grid b) ≡ le_z a.count b.count

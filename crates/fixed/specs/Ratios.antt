@@ -1,5 +1,5 @@
 -- What the exact product and the exact quotient of two marks round to.
-use Rattle.std.specs.Prelude.{Option, pos, ◌*ℤ◌}
+use Rattle.std.specs.Prelude.{Option, Some, pos, ◌*ℤ◌}
 use Rattle.std.proofs.Common.{lit<}
 use Rattle.exact.specs.Fraction.{Frac}
 use Rattle.exact.specs.Optional.{◌>>=◌}
@@ -17,6 +17,14 @@ product_below p = grid_below fixed_grid (product p)
 
 abbrev pub product_above : Product → Option Fixed
 product_above p = grid_above fixed_grid (product p)
+
+-- a pair is there where both marks are
+abbrev pub pair : Option Fixed → Option Fixed → Option (Fixed × Fixed)
+pair p q = p >>= (λ l. q >>= (λ u. Some (l, u)))
+
+-- the least rounded down and the greatest rounded up
+abbrev pub product_ends : Product → Product → Option (Fixed × Fixed)
+product_ends least greatest = pair (product_below least) (product_above greatest)
 
 abbrev pub ratio : Ratio → Frac
 ratio q = units_over fixed_grid (q.n *ℤ pos 65536) q.d q.positive

@@ -121,19 +121,13 @@ impl NumberKind for Fixed {
         product(self, other).above()
     }
 
-    // The four products are compared before one of them is rounded.
+    // The four products are compared before two of them are rounded.
     #[inline(always)]
-    fn least_below(a: Fixed, b: Fixed, c: Fixed, d: Fixed) -> Option<Fixed> {
-        let from_a = product(a, c).lesser(product(a, d));
-        let from_b = product(b, c).lesser(product(b, d));
-        from_a.lesser(from_b).below()
-    }
-
-    #[inline(always)]
-    fn greatest_above(a: Fixed, b: Fixed, c: Fixed, d: Fixed) -> Option<Fixed> {
-        let from_a = product(a, c).greater(product(a, d));
-        let from_b = product(b, c).greater(product(b, d));
-        from_a.greater(from_b).above()
+    fn product_ends(a: Fixed, b: Fixed, c: Fixed, d: Fixed) -> Option<(Fixed, Fixed)> {
+        let (ac, ad, bc, bd) = (product(a, c), product(a, d), product(b, c), product(b, d));
+        let least = ac.lesser(ad).lesser(bc.lesser(bd));
+        let greatest = ac.greater(ad).greater(bc.greater(bd));
+        Product::ends(least, greatest)
     }
 
     #[inline(always)]

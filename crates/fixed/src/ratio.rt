@@ -1,5 +1,5 @@
 // The exact product and the exact quotient of two marks, and their rounding to marks in 64 bits.
-ghost use Rattle.std.specs.Prelude.{◌≡◌, ◌^◌, ◌<◌, ◌≤◌, unsigned_abs};
+ghost use Rattle.std.specs.Prelude.{◌≡◌, ◌*◌, ◌^◌, ◌<◌, ◌≤◌, ◌≤ℤ◌, Some, unsigned_abs};
 
 use crate::mark::Fixed;
 use std::num::f64_to_bits_with_nan;
@@ -22,7 +22,8 @@ impl Product {
     #[inline(always)]
     #[tactic(auto, using(crate::proofs::Ratios::min_product))]
     pub fn lesser(self, other: Product) -> Product
-        ensures { ratios.product result ≡ min_F (ratios.product self) (ratios.product other) }
+        ensures value { ratios.product result ≡ min_F (ratios.product self) (ratios.product other) }
+        ensures least { (result.n ≤ℤ self.n) × (result.n ≤ℤ other.n) }
     {
         if self.n <= other.n { self } else { other }
     }
@@ -30,12 +31,24 @@ impl Product {
     #[inline(always)]
     #[tactic(auto, using(crate::proofs::Ratios::max_product))]
     pub fn greater(self, other: Product) -> Product
-        ensures { ratios.product result ≡ max_F (ratios.product self) (ratios.product other) }
+        ensures value { ratios.product result ≡ max_F (ratios.product self) (ratios.product other) }
+        ensures greatest { (self.n ≤ℤ result.n) × (other.n ≤ℤ result.n) }
     {
         if self.n > other.n { self } else { other }
     }
 
-    // The greatest mark not above the product. The shift is the floor, also where n is negative.
+    // The greatest mark not above a product from −T to T. The shift is the floor, also where n is negative.
+    #[inline(always)]
+    fn floor(self) -> Fixed
+        requires { unsigned_abs self.n ≤ 1073741823 * 65536 }
+        ensures { Some result ≡ ratios.product_below self }
+    {
+        Fixed {
+            count: (self.n >> 16) as i32,
+        }
+    }
+
+    // The greatest mark not above any product.
     #[inline(always)]
     pub fn below(self) -> Option<Fixed>
         ensures { result ≡ ratios.product_below self }
@@ -43,9 +56,7 @@ impl Product {
         if self.n < -TOP * 65536 || self.n > TOP * 65536 {
             return None;
         }
-        Some(Fixed {
-            count: (self.n >> 16) as i32,
-        })
+        Some(self.floor())
     }
 
     // The least mark not below the product, by the mirror image.
@@ -54,6 +65,18 @@ impl Product {
         ensures { result ≡ ratios.product_above self }
     {
         Product { n: -self.n }.below().map(Fixed::opposite)
+    }
+
+    // The least product rounded down and the greatest rounded up. As they are in order, each is tested at one end of the range alone.
+    #[inline(always)]
+    pub fn ends(least: Product, greatest: Product) -> Option<(Fixed, Fixed)>
+        requires { least.n ≤ℤ greatest.n }
+        ensures { result ≡ ratios.product_ends least greatest }
+    {
+        if least.n < -TOP * 65536 || greatest.n > TOP * 65536 {
+            return None;
+        }
+        Some((least.floor(), Product { n: -greatest.n }.floor().opposite()))
     }
 }
 

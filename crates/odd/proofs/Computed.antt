@@ -4,6 +4,7 @@ use Rattle.std.proofs.Common.{◌∙◌, ap, ap₂, subst, sym, arith, w64, to_z
 use lib.Signed.{mag}
 use Rattle.std.proofs.lemmas.Int.{ints, to_z-of_z}
 use Rattle.std.specs.Int.{int_div_euclid, int_max, int_min}
+use Rattle.std.specs.Option.{option_zip}
 use Rattle.exact.proofs.Floors.{floor_greatest, floor_low}
 use Rattle.exact.proofs.Integers.{leZ_times, ≤ℤ_cancel, ≤ℤ_trans}
 use Rattle.exact.specs.Floor.{ceiling, floor}
@@ -86,6 +87,11 @@ module _ (a b c d : Sign) where
       (int_max (whole b *ℤ whole c) (whole b *ℤ whole d))) ≡ greatest_above sign_model a b c d
   unfolding over units_over ◌*F◌
   greatest_is = whole_above _ (lit< tt) ∙ ap (grid_above sign_grid) (sym (ap₂ max_F (max_over _ _) (max_over _ _) ∙ max_over _ _))
+
+pub zipped : (p q : Option Sign) → ◌≡◌ {A = Option (Sign × Sign)} (option_zip p q) (p >>= (λ l. q >>= (λ u. Some (l, u))))
+zipped None q = refl
+zipped (Some l) None = refl
+zipped (Some l) (Some u) = refl
 
 -- ---- quotients by each mark
 pub quotient_minus_below : (a : Sign) → Some (negative a) ≡ quotient_below sign_model a Minus

@@ -128,16 +128,11 @@ impl NumberKind for Sign {
         product(self, other)
     }
 
-    fn least_below(a: Sign, b: Sign, c: Sign, d: Sign) -> Option<Sign> {
-        let from_a = times(a, c).min(times(a, d));
-        let from_b = times(b, c).min(times(b, d));
-        marked(from_a.min(from_b))
-    }
-
-    fn greatest_above(a: Sign, b: Sign, c: Sign, d: Sign) -> Option<Sign> {
-        let from_a = times(a, c).max(times(a, d));
-        let from_b = times(b, c).max(times(b, d));
-        marked(from_a.max(from_b))
+    fn product_ends(a: Sign, b: Sign, c: Sign, d: Sign) -> Option<(Sign, Sign)> {
+        let (ac, ad, bc, bd) = (times(a, c), times(a, d), times(b, c), times(b, d));
+        let least = ac.min(ad).min(bc.min(bd));
+        let greatest = ac.max(ad).max(bc.max(bd));
+        marked(least).zip(marked(greatest))
     }
 
     fn quotient_below(self, other: Sign) -> Option<Sign> {

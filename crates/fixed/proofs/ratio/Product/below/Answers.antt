@@ -1,6 +1,6 @@
 use Rattle.std.proofs.Common.{◌*◌, ◌<◌, nat_abs, arith, lit<}
 use borrow.Author.Differences.{ints}
-use Rattle.fixed.proofs.Ratios.{fixed_none, fixed_some, shift_count}
+use Rattle.fixed.proofs.Ratios.{fixed_none}
 use Rattle.fixed.proofs.ratio.Product.below.Goals as goal
 use Rattle.fixed.proofs.ratio.Product.below.Goals.{then-self-via-then-self, then-self-via-else-self+then-self-2}
 
@@ -9,6 +9,3 @@ beyond c = elim c.then-self.branch [ then-self-via-then-self w ↦ omega (arith,
 
 pub returns-then-self : goal.returns-then-self
 returns-then-self c = fixed_none c.args.self.n 65536 (lit< tt) (beyond c)
-
-pub returns : goal.returns
-returns c = fixed_some c.args.self.n 65536 (lit< tt) _ (shift_count c.args.self.n (omega (arith, ints))) (omega (arith, ints))
