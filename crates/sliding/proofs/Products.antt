@@ -1,56 +1,61 @@
 -- The products of the sliding kind.
-use Rattle.std.proofs.Common.{◌≡◌, ◌*◌, ◌^◌, ◌<◌, ◌≤◌, Bool, true, false, cond, ℤ, pos, ◌*ℤ◌, neg_ℤ, ◌≤ℤ◌, nat_abs, None, sym, refl, ap, ap₂, ◌∙◌, arith, lit<, w64, SFits, to_z, of_z}
+use Rattle.std.proofs.Common.{◌≡◌, ◌*◌, ◌^◌, ◌≤◌, Bool, true, false, cond, ℤ, pos, ◌*ℤ◌, neg_ℤ, ◌≤ℤ◌, nat_abs, Some, None, Option, ◌||◌, sym, refl, ap, ap₂, ◌∙◌, arith, lit<, w64, to_z, of_z}
 use Rattle.std.specs.Prelude.{int_le}
 use borrow.Author.Differences.{ints}
 use lib.Signed.{shr_z}
+use Rattle.std.proofs.lemmas.Bool.{ltb-false, ltb-true}
 use Rattle.std.proofs.lemmas.Int.{to_z-of_z}
 use Rattle.std.specs.Int.{int_div_euclid, w128}
-use Rattle.exact.proofs.Floors.{floor_low, floor_next}
 use Rattle.exact.proofs.Integers.{leZ_times}
+use Rattle.exact.specs.Optional.{◌>>=◌}
 use Rattle.exact.specs.Fraction.{Frac, ◌*F◌, le_F, max_F, min_F}
+use Rattle.kind.proofs.GridRules.{above_of}
 use Rattle.kind.specs.Grid.{grid_above, grid_below, grid_value, units_over}
-use Rattle.kind.specs.Model.{greatest_above, greatest_product, least_below, least_product, product_above, product_below}
+use Rattle.kind.specs.Model.{greatest_product, least_product, product_above, product_below, product_ends}
 use Rattle.sliding.proofs.Rounds.{by_floor, floor_small, ratio_none}
 use Rattle.sliding.proofs.Scales.{plain_shr}
 use Rattle.sliding.specs.Grid.{sliding_grid, sliding_model}
+use Rattle.sliding.specs.Rules.{sliding_lawful}
 use Rattle.sliding.specs.Products as products
 use Rattle.sliding.specs.Whole as whole
 use Rattle.sliding.specs.declared.mark.Sliding.{Sliding}
 
 -- ---- rounding, by what the code computes
-module _ (n : ℤ) (b : nat_abs n ≤ 2 ^ 112) where
-  fits : SFits w128 n
-  fits = omega (arith, ints)
+pub no_mark : (n : ℤ) → products.beyond n ≡ true → None ≡ products.below n
+no_mark n h = ratio_none n 16777216 (lit< tt) (ltb-true _ _ h)
 
-  pub no_mark : 72057589742960640 * 16777216 < nat_abs n → None ≡ products.below n
-  no_mark h = ratio_none n 16777216 (lit< tt) h
+no_upper : (n : ℤ) → products.beyond n ≡ true → None ≡ products.above n
+no_upper n h = above_of sliding_grid sliding_lawful n (neg_ℤ n) 16777216 (lit< tt) None refl
+    (ratio_none (neg_ℤ n) 16777216 (lit< tt) (let l = ltb-true _ _ h in omega (arith, ints)))
 
-  -- its upper 64 bits tell that it is from −T to T
-  abbrev upper : ℤ
-  upper = to_z w64 (of_z w64 (to_z w128 (of_z w128 (shr_z (to_z w128 (of_z w128 n)) (2 ^ 64)))))
-
-  upper_is : upper ≡ int_div_euclid n (pos (2 ^ 64))
-  upper_is = let p = floor_low n (2 ^ 64) (lit< tt) in let q = floor_next n (2 ^ 64) (lit< tt) in
-      ap (λ (z : ℤ). to_z w64 (of_z w64 z)) (plain_shr w128 n 64 fits)
-      ∙ to_z-of_z w64 (int_div_euclid n (pos (2 ^ 64))) (omega (arith, ints))
-
-  pub within : neg_ℤ (pos 65535) ≤ℤ upper → upper ≤ℤ pos 65534 → nat_abs n ≤ 72057589742960640 * 16777216
-  within l h = let e = upper_is in let p = floor_low n (2 ^ 64) (lit< tt) in let q = floor_next n (2 ^ 64) (lit< tt) in omega (arith, ints)
+module _ (n : ℤ) (b : nat_abs n ≤ 2 ^ 112) (i : products.beyond n ≡ false) where
+  within : nat_abs n ≤ 72057589742960640 * 16777216
+  within = ltb-false _ _ i
 
   -- the whole units in it
-  module _ (h : nat_abs n ≤ 72057589742960640 * 16777216) where
-    abbrev units : ℤ
-    units = to_z w64 (of_z w64 (to_z w128 (of_z w128 (shr_z (to_z w128 (of_z w128 n)) 16777216))))
+  abbrev units : ℤ
+  units = to_z w64 (of_z w64 (to_z w128 (of_z w128 (shr_z (to_z w128 (of_z w128 n)) 16777216))))
 
-    small : nat_abs (int_div_euclid n (pos 16777216)) ≤ 72057589742960640
-    small = floor_small n 16777216 (lit< tt) 72057589742960640 h
+  units_is : units ≡ int_div_euclid n (pos 16777216)
+  units_is = let c = floor_small n 16777216 (lit< tt) 72057589742960640 within in
+      ap (λ (z : ℤ). to_z w64 (of_z w64 z)) (plain_shr w128 n 24 (omega (arith, ints)))
+      ∙ to_z-of_z w64 (int_div_euclid n (pos 16777216)) (omega (arith, ints))
 
-    units_is : units ≡ int_div_euclid n (pos 16777216)
-    units_is = let c = small in ap (λ (z : ℤ). to_z w64 (of_z w64 z)) (plain_shr w128 n 24 fits)
-        ∙ to_z-of_z w64 (int_div_euclid n (pos 16777216)) (omega (arith, ints))
+  pub is_below : whole.below units ≡ products.below n
+  is_below = ap (λ (z : ℤ). whole.below z) units_is ∙ by_floor n 16777216 (lit< tt) within
 
-    pub is_below : whole.below units ≡ products.below n
-    is_below = ap (λ (z : ℤ). whole.below z) units_is ∙ by_floor n 16777216 (lit< tt) h
+-- ---- both ends
+no_pair : (o : Option Sliding) → ◌≡◌ {A = Option (Sliding × Sliding)} None (o >>= (λ l. None))
+no_pair None = refl
+no_pair (Some l) = refl
+
+no_ends_at : (n m : ℤ) (s t : Bool) → products.beyond n ≡ s → products.beyond m ≡ t → s || t ≡ true → None ≡ products.ends n m
+no_ends_at n m true t e f h = ap (λ (o : Option Sliding). o >>= (λ l. products.above m >>= (λ u. Some (l, u)))) (no_mark n e)
+no_ends_at n m false t e f h = no_pair (products.below n)
+    ∙ ap (λ (o : Option Sliding). products.below n >>= (λ l. o >>= (λ u. Some (l, u)))) (no_upper m (f ∙ h))
+
+pub no_ends : (n m : ℤ) → products.beyond n || products.beyond m ≡ true → None ≡ products.ends n m
+no_ends n m = no_ends_at n m _ _ refl refl
 
 -- ---- of marks
 pub product_is : (a b : Sliding) → products.product (a.units *ℤ b.units) ≡ (grid_value sliding_grid a *F grid_value sliding_grid b)
@@ -74,6 +79,20 @@ greater_is : (x y : ℤ) → max_F (products.product x) (products.product y) ≡
 unfolding max_F
 greater_is x y = ap (λ (t : Bool). cond t (products.product y) (products.product x)) (order x y) ∙ chosen (int_le x y) y x
 
+lesser_left : (x y : ℤ) → products.lesser x y ≤ℤ x
+lesser_left x y = at _ refl
+  where
+    at : (t : Bool) → int_le x y ≡ t → cond t x y ≤ℤ x
+    at true e = omega (arith, ints)
+    at false e = omega (arith, ints)
+
+greater_left : (x y : ℤ) → x ≤ℤ products.greater x y
+greater_left x y = at _ refl
+  where
+    at : (t : Bool) → int_le x y ≡ t → x ≤ℤ cond t y x
+    at true e = omega (arith, ints)
+    at false e = omega (arith, ints)
+
 -- ---- the operations of the kind, from the products that the code computes
 module _ (a b : Sliding) (n : ℤ) (e : n ≡ a.units *ℤ b.units) where
   is : products.product n ≡ (grid_value sliding_grid a *F grid_value sliding_grid b)
@@ -85,22 +104,21 @@ module _ (a b : Sliding) (n : ℤ) (e : n ≡ a.units *ℤ b.units) where
   pub is_product_above : products.above n ≡ product_above sliding_model a b
   is_product_above = ap (λ (x : Frac). grid_above sliding_grid x) is
 
-module _ (a b c d : Sliding) (p q r s x y n : ℤ) (ep : p ≡ a.units *ℤ c.units) (eq : q ≡ a.units *ℤ d.units)
-    (er : r ≡ b.units *ℤ c.units) (es : s ≡ b.units *ℤ d.units) where
-  module _ (ex : x ≡ products.lesser p q) (ey : y ≡ products.lesser r s) (e : n ≡ products.lesser x y) where
-    least_is : products.product n ≡ least_product sliding_model a b c d
-    least_is = ap (λ (z : ℤ). products.product z) (e ∙ ap₂ products.lesser ex ey) ∙ sym (ap₂ min_F
-        (ap₂ min_F (sym (is a c p ep)) (sym (is a d q eq)) ∙ lesser_is p q)
-        (ap₂ min_F (sym (is b c r er)) (sym (is b d s es)) ∙ lesser_is r s) ∙ lesser_is (products.lesser p q) (products.lesser r s))
+module _ (a b c d : Sliding) (p q r s x y v w n m : ℤ) (ep : p ≡ a.units *ℤ c.units) (eq : q ≡ a.units *ℤ d.units)
+    (er : r ≡ b.units *ℤ c.units) (es : s ≡ b.units *ℤ d.units) (ex : x ≡ products.lesser p q) (ey : y ≡ products.lesser r s)
+    (en : n ≡ products.lesser x y) (ev : v ≡ products.greater p q) (ew : w ≡ products.greater r s) (em : m ≡ products.greater v w) where
+  least_is : products.product n ≡ least_product sliding_model a b c d
+  least_is = ap (λ (z : ℤ). products.product z) (en ∙ ap₂ products.lesser ex ey) ∙ sym (ap₂ min_F
+      (ap₂ min_F (sym (is a c p ep)) (sym (is a d q eq)) ∙ lesser_is p q)
+      (ap₂ min_F (sym (is b c r er)) (sym (is b d s es)) ∙ lesser_is r s) ∙ lesser_is (products.lesser p q) (products.lesser r s))
 
-    pub is_least_below : products.below n ≡ least_below sliding_model a b c d
-    is_least_below = ap (λ (z : Frac). grid_below sliding_grid z) least_is
+  greatest_is : products.product m ≡ greatest_product sliding_model a b c d
+  greatest_is = ap (λ (z : ℤ). products.product z) (em ∙ ap₂ products.greater ev ew) ∙ sym (ap₂ max_F
+      (ap₂ max_F (sym (is a c p ep)) (sym (is a d q eq)) ∙ greater_is p q)
+      (ap₂ max_F (sym (is b c r er)) (sym (is b d s es)) ∙ greater_is r s) ∙ greater_is (products.greater p q) (products.greater r s))
 
-  module _ (ex : x ≡ products.greater p q) (ey : y ≡ products.greater r s) (e : n ≡ products.greater x y) where
-    greatest_is : products.product n ≡ greatest_product sliding_model a b c d
-    greatest_is = ap (λ (z : ℤ). products.product z) (e ∙ ap₂ products.greater ex ey) ∙ sym (ap₂ max_F
-        (ap₂ max_F (sym (is a c p ep)) (sym (is a d q eq)) ∙ greater_is p q)
-        (ap₂ max_F (sym (is b c r er)) (sym (is b d s es)) ∙ greater_is r s) ∙ greater_is (products.greater p q) (products.greater r s))
+  pub is_ends : products.ends n m ≡ product_ends sliding_model a b c d
+  is_ends = ap₂ (λ (x y : Frac). grid_below sliding_grid x >>= (λ l. grid_above sliding_grid y >>= (λ u. Some (l, u)))) least_is greatest_is
 
-    pub is_greatest_above : products.above n ≡ greatest_above sliding_model a b c d
-    is_greatest_above = ap (λ (z : Frac). grid_above sliding_grid z) greatest_is
+  pub in_order : n ≤ℤ m
+  in_order = let i = lesser_left p q in let j = lesser_left x y in let k = greater_left p q in let l = greater_left v w in omega (arith, ints)

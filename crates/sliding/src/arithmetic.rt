@@ -143,17 +143,14 @@ impl NumberKind for Sliding {
     }
 
     #[inline(always)]
-    fn least_below(a: Sliding, b: Sliding, c: Sliding, d: Sliding) -> Option<Sliding> {
-        let of_a = Product::of(a, c).lesser(Product::of(a, d));
-        let of_b = Product::of(b, c).lesser(Product::of(b, d));
-        of_a.lesser(of_b).below()
-    }
-
-    #[inline(always)]
-    fn greatest_above(a: Sliding, b: Sliding, c: Sliding, d: Sliding) -> Option<Sliding> {
-        let of_a = Product::of(a, c).greater(Product::of(a, d));
-        let of_b = Product::of(b, c).greater(Product::of(b, d));
-        of_a.greater(of_b).above()
+    fn product_ends(a: Sliding, b: Sliding, c: Sliding, d: Sliding) -> Option<(Sliding, Sliding)> {
+        let ac = Product::of(a, c);
+        let ad = Product::of(a, d);
+        let bc = Product::of(b, c);
+        let bd = Product::of(b, d);
+        let least = ac.lesser(ad).lesser(bc.lesser(bd));
+        let greatest = ac.greater(ad).greater(bc.greater(bd));
+        least.ends(greatest)
     }
 
     fn quotient_below(self, other: Sliding) -> Option<Sliding> {

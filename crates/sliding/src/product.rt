@@ -1,5 +1,5 @@
 // The exact product of two marks, and its rounding to a mark.
-ghost use Rattle.std.specs.Prelude.{◌≡◌, ◌*ℤ◌, ◌^◌, ◌≤◌, nat_lt, unsigned_abs};
+ghost use Rattle.std.specs.Prelude.{◌≡◌, ◌*ℤ◌, ◌≤ℤ◌, ◌^◌, ◌≤◌, ◌||◌, Some, false, unsigned_abs};
 
 use crate::mark::Sliding;
 use crate::rounding::{TOP, cut};
@@ -41,21 +41,56 @@ impl Product {
     #[cold]
     #[inline(never)]
     fn beyond(self) -> bool
-        ensures { result ≡ nat_lt 1208925747557035136778240 (unsigned_abs self.n) }
+        ensures { result ≡ products.beyond self.n }
     {
         self.n.unsigned_abs() > u128::from(TOP) << 24
     }
 
-    // The greatest mark not above the product. Mostly the upper 64 bits tell that it is from −T to T.
+    // Whether it or a product that is not less is beyond −T or T. Mostly their upper 64 bits tell that they are not.
+    #[inline(always)]
+    fn either_beyond(self, other: Product) -> bool
+        requires { self.n ≤ℤ other.n }
+        ensures { result ≡ products.beyond self.n || products.beyond other.n }
+    {
+        let least = (self.n >> 64) as i64;
+        let greatest = (other.n >> 64) as i64;
+        if least >= -65_535 && greatest <= 65_534 {
+            return false;
+        }
+        self.beyond() || other.beyond()
+    }
+
+    // The greatest mark not above the product, where it is from −T to T.
+    #[inline(always)]
+    fn cut(self) -> Sliding
+        requires { products.beyond self.n ≡ false }
+        ensures { Some result ≡ products.below self.n }
+    {
+        cut((self.n >> 24) as i64)
+    }
+
+    // The same, absent outside −T to T.
     #[inline(always)]
     pub fn below(self) -> Option<Sliding>
         ensures { result ≡ products.below self.n }
     {
-        let upper = (self.n >> 64) as i64;
-        if (upper < -65_535 || upper > 65_534) && self.beyond() {
+        if self.either_beyond(self) {
             return None;
         }
-        Some(cut((self.n >> 24) as i64))
+        Some(self.cut())
+    }
+
+    // It rounded down and a product that is not less rounded up.
+    #[inline(always)]
+    pub fn ends(self, other: Product) -> Option<(Sliding, Sliding)>
+        requires { self.n ≤ℤ other.n }
+        ensures { result ≡ products.ends self.n other.n }
+    {
+        if self.either_beyond(other) {
+            return None;
+        }
+        let upper = Product { n: -other.n }.cut();
+        Some((self.cut(), upper.opposite()))
     }
 
     // The least mark not below the product, by the mirror image.
