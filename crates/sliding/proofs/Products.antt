@@ -1,5 +1,5 @@
 -- The products of the sliding kind.
-use Rattle.std.proofs.Common.{◌≡◌, ◌*◌, ◌^◌, ◌≤◌, Bool, true, false, cond, ℤ, pos, ◌*ℤ◌, neg_ℤ, ◌≤ℤ◌, nat_abs, Some, None, Option, ◌||◌, sym, refl, ap, ap₂, ◌∙◌, arith, lit<, w64, to_z, of_z}
+use Rattle.std.proofs.Common.{◌≡◌, ◌*◌, ◌^◌, ◌≤◌, Bool, true, false, cond, ℤ, pos, ◌*ℤ◌, neg_ℤ, nat_abs, Some, None, Option, ◌||◌, sym, refl, ap, ap₂, ◌∙◌, arith, lit<, w64, to_z, of_z}
 use Rattle.std.specs.Prelude.{int_le}
 use borrow.Author.Differences.{ints}
 use lib.Signed.{shr_z}
@@ -79,20 +79,6 @@ greater_is : (x y : ℤ) → max_F (products.product x) (products.product y) ≡
 unfolding max_F
 greater_is x y = ap (λ (t : Bool). cond t (products.product y) (products.product x)) (order x y) ∙ chosen (int_le x y) y x
 
-lesser_left : (x y : ℤ) → products.lesser x y ≤ℤ x
-lesser_left x y = at _ refl
-  where
-    at : (t : Bool) → int_le x y ≡ t → cond t x y ≤ℤ x
-    at true e = omega (arith, ints)
-    at false e = omega (arith, ints)
-
-greater_left : (x y : ℤ) → x ≤ℤ products.greater x y
-greater_left x y = at _ refl
-  where
-    at : (t : Bool) → int_le x y ≡ t → x ≤ℤ cond t y x
-    at true e = omega (arith, ints)
-    at false e = omega (arith, ints)
-
 -- ---- the operations of the kind, from the products that the code computes
 module _ (a b : Sliding) (n : ℤ) (e : n ≡ a.units *ℤ b.units) where
   is : products.product n ≡ (grid_value sliding_grid a *F grid_value sliding_grid b)
@@ -119,6 +105,3 @@ module _ (a b c d : Sliding) (p q r s x y v w n m : ℤ) (ep : p ≡ a.units *�
 
   pub is_ends : products.ends n m ≡ product_ends sliding_model a b c d
   is_ends = ap₂ (λ (x y : Frac). grid_below sliding_grid x >>= (λ l. grid_above sliding_grid y >>= (λ u. Some (l, u)))) least_is greatest_is
-
-  pub in_order : n ≤ℤ m
-  in_order = let i = lesser_left p q in let j = lesser_left x y in let k = greater_left p q in let l = greater_left v w in omega (arith, ints)

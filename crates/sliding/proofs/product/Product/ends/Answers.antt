@@ -14,6 +14,7 @@ returns-then-either_beyond c = no_ends c.args.self.n c.args.other.n (sym c.eithe
 
 pub returns : goal.returns
 returns c =
-    let upper : Some c.opposite.result ≡ products.above c.args.other.n = ap Some c.opposite.ensures ∙ above_of sliding_grid sliding_lawful c.args.other.n _ 16777216 _ _
-    (let b = c.args.other.bounded in omega (arith, ints)) c.cut-upper.ensures in
+    let m = c.args.other in
+    let upper : Some c.opposite.result ≡ products.above m.n = ap Some c.opposite.ensures
+    ∙ above_of sliding_grid sliding_lawful m.n _ 16777216 _ _ (let b = m.bounded in omega (arith, ints)) c.cut-upper.ensures in
     ap₂ (λ (o p : Option Sliding). o >>= (λ l. p >>= (λ u. Some (l, u)))) c.cut.ensures upper
