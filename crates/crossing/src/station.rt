@@ -43,10 +43,8 @@ fn window_in<K: Crossing>(
     ensures value { result ≡ after (box_in over.now) (λ b. report_over K.NumberKind.model b lines.now line) }
     ensures standing { standing ≡ true → Standing K.NumberKind.model lines.now working.new }
 {
-    match &over.opened() {
-        Ok(over) => report_in(lines, standing, working, over, line),
-        Err(fault) => Err(*fault),
-    }
+    let over = over.opened()?;
+    report_in(lines, standing, working, &over, line)
 }
 
 // The same for bytes that may be no formula.
