@@ -1,4 +1,4 @@
-// The product by a constant: five products by one mark, whose sign is asked once.
+// The product by a constant: five products of a span by one mark.
 ghost use Rattle.std.specs.Prelude.{◌≡◌, Some};
 ghost use Rattle.slope.specs.Rules.{given, product, rec, still};
 ghost use Rattle.product.specs.Scaled.{slopes_times, times_slopes};

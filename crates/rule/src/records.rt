@@ -173,6 +173,8 @@ fn put_constant<K: NumberKind>(records: &mut [Record<K>], n: usize, k: i64) -> R
     Ok(())
 }
 
+// Every operation's step. The functions below fall back on it where a line is none of theirs, so that each is right for every line; by
+// `record_steps` no line comes to it.
 #[inline(never)]
 fn any_step<K: NumberKind>(
     b: &ChannelBox,
