@@ -57,9 +57,11 @@ module _ {K : Type 0} (m : Model K) (ls : List Line) where
 
     -- a record that stands is the one the rule makes
     pub stands_here : (b : Box) → i ≤ length w → (k : ℤ) → line ≡ Constant k → Stands m w i k → (r : Record K) × (Ok r ≡ rule m b (take i w) line) × (w ≡ set w i r)
-    stands_here b hw k e s = (s.0,
-        s.1 ∙ sym (ap (rule m b (take i w)) e ∙ ap (constant m k) (length-take-le i w hw)),
-        sym (ap (set w i) (sym (get_or_from_slice_get w i s.0 s.0 s.2)) ∙ set-get_or w i s.0))
+    stands_here b hw k e s = (
+      s.0,
+      s.1 ∙ sym (ap (rule m b (take i w)) e ∙ ap (constant m k) (length-take-le i w hw)),
+      sym (ap (set w i) (sym (get_or_from_slice_get w i s.0 s.0 s.2)) ∙ set-get_or w i s.0),
+    )
 
 pub accepted_is : (r : Result (Unit {0}) Fault) → is_ok r ≡ true → (u : Unit {0}) × (r ≡ Ok u)
 accepted_is (Ok u) e = (u, refl)

@@ -1,14 +1,14 @@
 -- The figures of the worked examples, computed.
 use Rattle.std.proofs.Common.{refl}
 use Rattle.exact.specs.Floor.{ceiling, floor}
-use Rattle.exact.specs.Fraction.{◌*F◌, ◌+F◌, inv_F, le_F, neg_F, over_top}
+use Rattle.exact.specs.Fraction.{◌*F◌, ◌+F◌, inv_F, le_F, max_F, min_F, neg_F, over_top}
 use Rattle.kind.specs.Grid.{grid_above, grid_below, inside?}
 use Rattle.leb.specs.Numbers.{encode}
 use Rattle.sliding.specs.Grid.{slide}
 use Rattle.worked.specs.Worked.{BranchExample, BytesExample, CloseExample, ConstantExample, MagnitudeExample, ProductExample, QuotientExample, WorkedExamples}
 
 product : ProductExample
-unfolding grid_above grid_below inside? le_F neg_F floor ceiling ◌+F◌ ◌*F◌ encode
+unfolding grid_above grid_below inside? le_F max_F min_F neg_F floor ceiling ◌+F◌ ◌*F◌ encode
 product = record {
   line = record { all = _; made = refl; it = _; there = refl };
   slopes = record { three = _; there = refl };
@@ -24,7 +24,7 @@ product = record {
 }
 
 quotient : QuotientExample
-unfolding grid_above grid_below inside? le_F neg_F floor ceiling ◌+F◌ ◌*F◌ inv_F over_top
+unfolding grid_above grid_below inside? le_F max_F min_F neg_F floor ceiling ◌+F◌ ◌*F◌ inv_F over_top
 quotient = record {
   line = record { all = _; made = refl; it = _; there = refl };
   slopes = record { three = _; there = refl };
@@ -37,7 +37,7 @@ quotient = record {
 }
 
 close : CloseExample
-unfolding grid_above grid_below inside? le_F neg_F floor ceiling ◌+F◌ ◌*F◌ inv_F over_top
+unfolding grid_above grid_below inside? le_F max_F min_F neg_F floor ceiling ◌+F◌ ◌*F◌ inv_F over_top
 close = record {
   at_zero = (refl, refl);
   at_four = (refl, refl);
@@ -46,7 +46,7 @@ close = record {
 }
 
 magnitude : MagnitudeExample
-unfolding grid_above grid_below inside? le_F neg_F floor ceiling ◌+F◌ ◌*F◌ inv_F over_top
+unfolding grid_above grid_below inside? le_F max_F min_F neg_F floor ceiling ◌+F◌ ◌*F◌ inv_F over_top
 magnitude = record {
   line = record { all = _; made = refl; it = _; there = refl };
   slopes = record { three = _; there = refl };
@@ -57,7 +57,7 @@ magnitude = record {
 }
 
 branch : BranchExample
-unfolding grid_above grid_below inside? le_F neg_F floor ceiling ◌+F◌ ◌*F◌
+unfolding grid_above grid_below inside? le_F max_F min_F neg_F floor ceiling ◌+F◌ ◌*F◌
 branch = record {
   line = record { all = _; made = refl; it = _; there = refl };
   U = (record { cross = refl }, record { cross = refl });

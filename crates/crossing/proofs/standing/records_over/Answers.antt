@@ -43,15 +43,17 @@ loop-n-preserved g c =
     let h = c.loop-n-test.true in
     let room : n < length w0 = omega (arith, h, c.requires.room, c.loop-n.auto.working) in
     elim c.if-not-stands.branch [
-      then-not-stands+in_ok-record_line w ↦
-        let q = line_made m b w0 n (get_or ls n d) room w.in_ok-record_line.ensures.answer w.in_ok-record_line.ensures.records in
-        let e = w.working-is ∙ q.2 in
-        (going_on m b ls c.args.working.now c.loop-n.invariant.0 d h refl e q.1 room,
-        λ s. subst (Standing m ls) (sym e) (still_stand m ls w0 n d h refl (λ k f. true≢false (sym (c.stands.ensures.no s k f) ∙ w.if-not-stands.true)) q.0 (c.loop-n.invariant.1 s)))
-    | else-not-stands w ↦
-        let y = c.stands.ensures.yes w.if-not-stands.false in
-        let k = y.1 in
-        let q = stands_here m ls w0 n d h refl b (omega (arith, room)) k.0 k.1 (c.loop-n.invariant.1 y.0 n k.0 (slice_get-get_or ls n d h ∙ ap Some k.1)) in
-        (going_on m b ls c.args.working.now c.loop-n.invariant.0 d h refl (w.working-is ∙ q.2) q.1 room,
-        λ s. subst (Standing m ls) (sym w.working-is) (c.loop-n.invariant.1 s))
+      | then-not-stands+in_ok-record_line w ↦
+          let q = line_made m b w0 n (get_or ls n d) room w.in_ok-record_line.ensures.answer w.in_ok-record_line.ensures.records in
+          let e = w.working-is ∙ q.2 in (
+            going_on m b ls c.args.working.now c.loop-n.invariant.0 d h refl e q.1 room,
+            λ s. subst (Standing m ls) (sym e) (still_stand m ls w0 n d h refl (λ k f. true≢false (sym (c.stands.ensures.no s k f) ∙ w.if-not-stands.true)) q.0 (c.loop-n.invariant.1 s)),
+          )
+      | else-not-stands w ↦
+          let y = c.stands.ensures.yes w.if-not-stands.false in
+          let k = y.1 in
+          let q = stands_here m ls w0 n d h refl b (omega (arith, room)) k.0 k.1 (c.loop-n.invariant.1 y.0 n k.0 (slice_get-get_or ls n d h ∙ ap Some k.1)) in (
+            going_on m b ls c.args.working.now c.loop-n.invariant.0 d h refl (w.working-is ∙ q.2) q.1 room,
+            λ s. subst (Standing m ls) (sym w.working-is) (c.loop-n.invariant.1 s),
+          )
     ]
