@@ -2,14 +2,13 @@
 use Rattle.std.specs.Prelude.{◌≡◌, ℕ, cond, List, [], ◌∷◌, ◌++◌, ℤ, length, Ok, Err, Result, nat_lt}
 use Rattle.boxes.specs.Boxes.{Box}
 use Rattle.boxes.specs.Moving.{moved}
-use Rattle.fault.specs.Refusals.{after, refused}
+use Rattle.fault.specs.Refusals.{refused}
 use Rattle.fault.specs.declared.fault.Cause.TheVariants.{Lines}
 use Rattle.fault.specs.declared.fault.Fault.{Fault}
 use Rattle.kind.specs.Model.{Model}
 use Rattle.line.specs.declared.line.Line.{Line}
 use Rattle.rule.specs.Rule.{rule}
 use Rattle.slope.specs.declared.record.Record.{Record}
-use Rattle.sheet.specs.Calls.{enough}
 use Rattle.sheet.specs.Contents.{Contents}
 use Rattle.sheet.specs.Reading.{Outcome, ends, goes_on, overlaid}
 
@@ -40,10 +39,6 @@ module _ {K : Type 0} (m : Model K) where
   -- what is made over the new box, if there is one
   abbrev pub move_onto : Contents → Result Box Fault → Outcome K
   move_onto s over = goes_on over [] [] (λ b. remade b s.lines [] [])
-
-  -- the records of the held lines over any box, where so many working lines are lent
-  abbrev pub records_over : Contents → ℕ → Box → Outcome K
-  records_over s lent b = move_onto s (after (enough lent) (λ _. Ok b))
 
   -- a move to this box, or to none
   pub record MovedTo (over : Result Box Fault) (s : Contents) (w p : List (Record K)) (r : Result (Unit {0}) Fault) (s' : Contents) (w' p' : List (Record K)) : Type 0 where

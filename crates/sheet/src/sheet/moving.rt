@@ -2,7 +2,7 @@
 ghost use Rattle.std.specs.Prelude.{◌≡◌, ◌≤◌, [], length, take, Ok};
 ghost use Rattle.boxes.specs.Stored.{box_of, boxed};
 ghost use Rattle.sheet.specs.Contents.{contents};
-ghost use Rattle.sheet.specs.Moving.{Moved, MovedTo, records_over, remade};
+ghost use Rattle.sheet.specs.Moving.{Moved, MovedTo, remade};
 ghost use Rattle.sheet.specs.Moving as moving;
 ghost use Rattle.sheet.specs.Reading.{overlaid};
 
@@ -42,19 +42,6 @@ impl Sheet {
             record_line(over, spare, n, self.lines[n])?;
         }
         Ok(())
-    }
-
-    // Makes the records of the held lines over a box, which the sheet does not become. A refusal leaves those made before it.
-    pub fn records_over<K: NumberKind>(
-        &self,
-        over: &ChannelBox,
-        working: &mut [Record<K>],
-    ) -> Result<(), Fault>
-        ensures answer { result ≡ (records_over K.NumberKind.model (contents self.now) (length working.old) (box_of over.now)).answer }
-        ensures records { working.new ≡ overlaid (records_over K.NumberKind.model (contents self.now) (length working.old) (box_of over.now)).records working.old }
-    {
-        enough(working)?;
-        self.remake(over, working)
     }
 
     // Makes all records anew over a box, which becomes the sheet's.
