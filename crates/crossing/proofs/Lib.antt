@@ -5,3 +5,5 @@ pub mod Parsing
 pub mod Reported
 pub mod Window
 pub mod Stands
+pub mod HeldIn
+pub mod Lent

@@ -1,16 +1,14 @@
 // The calls that make or read records.
-ghost use Rattle.std.specs.Prelude.{◌≡◌, length, min};
-ghost use Rattle.crossing.specs.Calls.{Adds, Moves, Reads, Reports};
+ghost use Rattle.crossing.specs.Calls.{Adds, Moves, Reads};
 
-use crate::answers::{answer, reported};
+use crate::answers::answer;
 use crate::calls::call;
 use crate::marks::Crossing;
 use crate::means::Means;
 use crate::memory::{CAnswer, CLine, CRecord, CSheet};
-use crate::room::{Room, lent, load};
+use crate::room::Room;
 use fault::Cause;
 use runs::{Call, Moving};
-use slope::Record;
 
 pub fn add<K: Crossing>(
     sheet: &mut CSheet,
@@ -56,29 +54,3 @@ pub fn read<K: Crossing>(
     answer(call(sheet, working, &mut [], &mut [], room, Call::Read(bytes)))
 }
 
-// A report by records that are loaded into a room of the right size.
-fn reported_in<K: Crossing>(
-    sheet: &CSheet,
-    working: &[CRecord],
-    lines: &mut [Record<K>],
-    line: usize,
-) -> CAnswer
-    requires { length lines.old ≡ min (length working.now) 64 }
-    ensures { Reports K.NumberKind.model K.Crossing.mark_of line sheet.now working.now result }
-{
-    load(lines, working);
-    let report = sheet.sheet().report(lines, line);
-    reported(report)
-}
-
-pub fn report<K: Crossing>(
-    sheet: &CSheet,
-    working: &[CRecord],
-    room: &mut Room<K>,
-    line: usize,
-) -> CAnswer
-    ensures { Reports K.NumberKind.model K.Crossing.mark_of line sheet.now working.now result }
-{
-    let n = lent(working);
-    reported_in(sheet, working, &mut room.working[..n], line)
-}

@@ -1,0 +1,28 @@
+-- The records of a memory that are lent, one by one.
+use Rattle.std.proofs.Common.{◌≡◌, ℕ, ◌<◌, ◌≤◌, List, length, get_or, map, take, Some, sym, ap, ◌∙◌, arith, length-take-le}
+use Rattle.std.proofs.Math.Nat.{min-le_right}
+use Rattle.std.proofs.lemmas.List.{get_or-map, get_or-take, length-map, length-take}
+use Rattle.std.proofs.lemmas.Option.{slice_get-get_or}
+use Rattle.std.specs.List.{slice_get}
+use Rattle.crossing.specs.Memory.{records_in}
+use Rattle.crossing.specs.Records.{record_of}
+use Rattle.crossing.specs.declared.memory.CMark.{CMark}
+use Rattle.crossing.specs.declared.memory.CRecord.{CRecord}
+
+module _ {K : Type 0} (of : CMark → K) (w : List CRecord) where
+  pub all_lent : 64 ≤ length w → length (records_in of w) ≡ 64
+  all_lent enough = length-map (take 64 w) (record_of of) ∙ length-take-le 64 w enough
+
+  pub few_lent : length w < 64 → length (records_in of w) < 64
+  few_lent few = let n = length-map (take 64 w) (record_of of) in let k = length-take 64 w in let l = min-le_right 64 (length w) in omega (arith, few, n, k, l)
+
+  module _ (enough : 64 ≤ length w) (i : ℕ) (d : CRecord) where
+    pub lent_at : i < 64 → slice_get (records_in of w) i ≡ Some (record_of of (get_or w i d))
+    lent_at h = let n = all_lent enough in
+        slice_get-get_or (records_in of w) i (record_of of d) (omega (arith, h, n))
+        ∙ ap Some (get_or-map (record_of of) (take 64 w) i d (record_of of d) (let k = length-take-le 64 w enough in omega (arith, h, k)) ∙ ap (record_of of) (get_or-take 64 w i d h))
+
+    pub held_at : (n : ℕ) → i < n → n ≤ 64 → slice_get (take n (records_in of w)) i ≡ Some (record_of of (get_or w i d))
+    held_at n h few = let k = all_lent enough in let l = length-take-le n (records_in of w) (omega (arith, few, k)) in
+        slice_get-get_or (take n (records_in of w)) i (record_of of d) (omega (arith, h, l))
+        ∙ ap Some (get_or-take n (records_in of w) i (record_of of d) h ∙ get_or-map (record_of of) (take 64 w) i d (record_of of d) (let k = length-take-le 64 w enough in omega (arith, h, few, k)) ∙ ap (record_of of) (get_or-take 64 w i d (omega (arith, h, few))))
