@@ -7,3 +7,5 @@ pub mod Window
 pub mod Stands
 pub mod HeldIn
 pub mod Lent
+pub mod Named
+pub mod Grown

@@ -16,11 +16,11 @@ use Rattle.slope.specs.declared.record.Record.{Record}
 
 module _ {R : Type 0} (w : List R) (i j : ℕ) (r : R) where
   -- what is put into one place leaves another
-  put_other : (j ≡ i → ⊥) → (x : R) → slice_get w j ≡ Some x → slice_get (set w i r) j ≡ Some x
+  pub put_other : (j ≡ i → ⊥) → (x : R) → slice_get w j ≡ Some x → slice_get (set w i r) j ≡ Some x
   put_other h x e = let n = slice_get_within w j x e in
       slice_get-get_or (set w i r) j x (omega (arith, n, length-set w i r)) ∙ ap Some (get_or-set_other w i j r x h ∙ get_or_from_slice_get w j x x e)
 
-  put_same : i < length w → slice_get (set w i r) i ≡ Some r
+  pub put_same : i < length w → slice_get (set w i r) i ≡ Some r
   put_same h = slice_get-get_or (set w i r) i r (omega (arith, h, length-set w i r)) ∙ ap Some (get_or-set_same w i r r h)
 
 module _ {K : Type 0} (m : Model K) (ls : List Line) where

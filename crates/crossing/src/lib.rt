@@ -1,6 +1,7 @@
 // Sheets, records and lines as plain numbers in a caller's memory, as C has them, and the calls over that memory.
 #![tactic(auto)]
 
+mod adding;
 mod answers;
 mod boxed;
 mod calls;
@@ -19,8 +20,9 @@ mod standing;
 mod station;
 mod whole;
 
+pub use adding::add;
 pub use calls::call;
-pub use each::{add, move_channel, read};
+pub use each::{move_channel, read};
 pub use marks::Crossing;
 pub use means::Means;
 pub use memory::{CAnswer, CBox, CLine, CMark, CRecord, CSheet, CSpan};
