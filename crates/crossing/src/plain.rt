@@ -1,14 +1,15 @@
 // The calls that need no records. They are the same for every kind.
-ghost use Rattle.std.specs.Prelude.{◌≡◌, take};
 ghost use Rattle.crossing.specs.Calls.{Opens, Strikes, Writes};
 ghost use Rattle.crossing.specs.Sheets.{sheet_of};
-ghost use Rattle.sheet.specs.Calls.{Opened, Struck};
+ghost use Rattle.sheet.specs.Calls.{Opened, Struck, Written};
 
 use crate::answers::answer;
 use crate::boxed::stored;
+use crate::means::read_all;
 use crate::memory::{CAnswer, CSheet};
 use boxes::ChannelBox;
 use fault::{Cause, Fault};
+use line::Line;
 use runs::Answer;
 
 // A box over no lines. What a refused sheet held stays.
@@ -53,9 +54,19 @@ pub fn strike(sheet: &mut CSheet) -> CAnswer
     answer(struck.map(|()| Answer::Accepted))
 }
 
+// The held lines are read, and written as bytes.
+fn written(sheet: &CSheet, out: &mut [u8]) -> Result<usize, Fault>
+    ensures { Written (sheet_of sheet.now) out.old result out.new }
+{
+    let (_, held) = sheet.parts();
+    let mut lines = [Line::Constant(0); 64];
+    read_all(&mut lines[..held], &sheet.lines[..held]);
+    writer::write(&lines[..held], out)
+}
+
 pub fn write(sheet: &CSheet, out: &mut [u8]) -> CAnswer
     ensures { Writes sheet.now out.old result out.new }
 {
-    let written = sheet.sheet().write(out);
+    let written = written(sheet, out);
     answer(written.map(|n| Answer::Length(n)))
 }

@@ -1,6 +1,7 @@
 // Sheets in memory without their lines: what a call needs of a sheet that it does not take apart.
-ghost use Rattle.std.specs.Prelude.{◌≡◌, ◌≤◌, Ok, length};
+ghost use Rattle.std.specs.Prelude.{◌≡◌, ◌≤◌, Ok, length, map, take};
 ghost use Rattle.boxes.specs.Stored.{box_of};
+ghost use Rattle.crossing.specs.Lines.{line_of};
 ghost use Rattle.crossing.specs.Sheets.{box_in, sheet_of};
 
 use crate::boxed::stored;
@@ -13,6 +14,7 @@ impl CSheet {
         ensures over { box_of result.0 ≡ (sheet_of self.now).over }
         ensures held { result.1 ≡ length (sheet_of self.now).lines }
         ensures few { result.1 ≤ 64 }
+        ensures lines { (sheet_of self.now).lines ≡ map line_of (take result.1 self.now.lines) }
     {
         match self.over.opened() {
             Ok(over) if self.held <= 64 => (over, self.held),

@@ -83,7 +83,7 @@ pub extern "C" fn huqabo_fixed_write(sheet: &CSheet, out: &mut [u8]) -> CAnswer
 pub extern "C" fn huqabo_fixed_report(sheet: &CSheet, working: &[CRecord], line: usize) -> CAnswer
     ensures { Reports fixed_model fixed_of line sheet.now working.now result }
 {
-    crossing::report(sheet, working, &mut Room::<Fixed>::blank(), line)
+    crossing::report::<Fixed>(sheet, working, line)
 }
 
 #[unsafe(no_mangle)]

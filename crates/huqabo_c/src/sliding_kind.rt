@@ -83,7 +83,7 @@ pub extern "C" fn huqabo_sliding_write(sheet: &CSheet, out: &mut [u8]) -> CAnswe
 pub extern "C" fn huqabo_sliding_report(sheet: &CSheet, working: &[CRecord], line: usize) -> CAnswer
     ensures { Reports sliding_model sliding_of line sheet.now working.now result }
 {
-    crossing::report(sheet, working, &mut Room::<Sliding>::blank(), line)
+    crossing::report::<Sliding>(sheet, working, line)
 }
 
 #[unsafe(no_mangle)]
