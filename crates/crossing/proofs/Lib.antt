@@ -9,3 +9,4 @@ pub mod HeldIn
 pub mod Lent
 pub mod Named
 pub mod Grown
+pub mod Remade

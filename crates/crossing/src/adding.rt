@@ -1,22 +1,19 @@
 // Adding a line in memory: of the working lines the records of its operands are read, and its own is written.
-ghost use Rattle.std.specs.Prelude.{◌≡◌, ◌+◌, ◌<◌, ◌≤◌, ◌++◌, ◌∷◌, [], ℕ, length, take};
-ghost use Rattle.boxes.specs.Stored.{box_of};
+ghost use Rattle.std.specs.Prelude.{◌≡◌, ◌+◌, ◌<◌, ◌≤◌, ◌++◌, ◌∷◌, [], ℕ, length};
 ghost use Rattle.crossing.specs.Calls.{Adds};
 ghost use Rattle.crossing.specs.Lines.{line_of};
 ghost use Rattle.crossing.specs.Memory.{Beyond, records_in};
 ghost use Rattle.crossing.specs.Operands.{Brought};
 ghost use Rattle.crossing.specs.Sheets.{lines_in, sheet_of};
-ghost use Rattle.rule.specs.Rule.{rule};
 ghost use Rattle.sheet.specs.Calls.{Added};
 
 use crate::answers::answer;
 use crate::marks::Crossing;
 use crate::means::Means;
 use crate::memory::{CAnswer, CLine, CRecord, CSheet};
+use crate::making::record_in;
 use crate::room::Room;
-use boxes::ChannelBox;
 use fault::{Cause, Fault};
-use rule::record_line;
 use runs::Answer;
 use slope::Record;
 
@@ -45,20 +42,6 @@ fn bring_operands<K: Crossing>(records: &mut [Record<K>], working: &[CRecord], l
     bring(records, working, line.a);
     bring(records, working, line.b);
     bring(records, working, line.c);
-}
-
-// The record of a line, by the records before it.
-fn record_of<K: Crossing>(
-    over: &ChannelBox,
-    records: &mut [Record<K>],
-    n: usize,
-    line: CLine,
-) -> Result<Record<K>, Fault>
-    requires { n < length records.old }
-    ensures { result ≡ rule K.NumberKind.model (box_of over.now) (take n records.old) (line_of line) }
-{
-    record_line(over, records, n, line.meaning())?;
-    Ok(records[n])
 }
 
 impl CSheet {
@@ -94,7 +77,7 @@ fn add_line<K: Crossing>(
         return Err(Cause::Full.at(64));
     }
     bring_operands(records, working, line);
-    working[n] = CRecord::form(record_of(&over, records, n, line)?);
+    working[n] = CRecord::form(record_in(&over, records, n, line.meaning())?);
     sheet.hold(line);
     Ok(n)
 }

@@ -1,4 +1,4 @@
-use Rattle.std.proofs.Common.{◌<◌, Ok, Err, set, refl, sym, ap, ◌∙◌, subst, arith}
+use Rattle.std.proofs.Common.{◌<◌, take, Ok, Err, set, refl, sym, ap, ◌∙◌, subst, arith}
 use Rattle.std.proofs.lemmas.Result.{err_from_is_err_and}
 use Rattle.boxes.specs.Stored.{box_of}
 use Rattle.crossing.proofs.Grown.{added_by, full, one_more, put_beyond, put_in, ruled, too_few}
@@ -10,6 +10,7 @@ use Rattle.crossing.specs.Memory.{records_in}
 use Rattle.crossing.specs.Sheets.{sheet_of}
 use Rattle.fault.specs.Refusals.{refused}
 use Rattle.fault.specs.declared.fault.Cause.TheVariants.{Full, Lines}
+use Rattle.rule.specs.Rule.{rule}
 use Rattle.sheet.specs.Calls.{Added}
 use Rattle.crossing.proofs.adding.add_line.Goals as goal
 
@@ -30,8 +31,8 @@ returns-then-n-eq64-clause-call g c =
     subst (λ s. Added m line s (records_in of w) (Err c.at-then-n-eq64.result) (sheet_of t) (records_in of w)) whole.means
     (added_by m of line w t (refused Full 64) (full m of line w t c.if-working-lt64.false whole.over whole.few c.if-n-eq64.true) (ap Err c.at-then-n-eq64.ensures) refl refl)
 
-pub returns-in_err-record_of-clause-call : goal.returns-in_err-record_of-clause-call
-returns-in_err-record_of-clause-call g c =
+pub returns-in_err-record_in-clause-call : goal.returns-in_err-record_in-clause-call
+returns-in_err-record_in-clause-call g c =
     let m = g.K.NumberKind.model in
     let of = g.K.Crossing.mark_of in
     let w = c.args.working.now in
@@ -45,10 +46,10 @@ returns-in_err-record_of-clause-call g c =
     let few = whole.few in
     let by = by_operands m (box_of c.whole-over.result) rs (records_in of w) t.held (omega (arith, few, long)) (omega (arith, few, all)) c.args.line
         (λ h. brought.first (omega (arith, few, h))) (λ h. brought.second (omega (arith, few, h))) (λ h. brought.third (omega (arith, few, h))) in
-    let made = ruled m of line w t c.if-working-lt64.false whole.over whole.few (λ e. c.if-n-eq64.false e) ∙ sym by ∙ sym c.in_err-record_of.ensures in
+    let made = ruled m of line w t c.if-working-lt64.false whole.over whole.few (λ e. c.if-n-eq64.false e) ∙ sym by ∙ sym (c.in_err-record_in.ensures.answer ∙ ap (rule m (box_of c.whole-over.result) (take t.held rs)) c.meaning.ensures) in
     let e = err_from_is_err_and c.from_residual.result c.from_residual.ensures.1 in
     subst (λ s. Added m line s (records_in of w) c.from_residual.result (sheet_of t) (records_in of w)) whole.means
-    (added_by m of line w t (Err c.in_err-record_of.field-0.0) made (e.1 ∙ ap Err e.2) refl refl)
+    (added_by m of line w t (Err c.in_err-record_in.field-0.0) made (e.1 ∙ ap Err e.2) refl refl)
 
 pub returns-clause-call : goal.returns-clause-call
 returns-clause-call g c =
@@ -67,8 +68,8 @@ returns-clause-call g c =
     let less : t.held < 64 = omega (arith, few, room) in
     let by = by_operands m (box_of c.whole-over.result) rs (records_in of w) t.held (omega (arith, few, long)) (omega (arith, few, all)) c.args.line
         (λ h. brought.first (omega (arith, few, h))) (λ h. brought.second (omega (arith, few, h))) (λ h. brought.third (omega (arith, few, h))) in
-    let r = c.in_ok-record_of.field-0 in
-    let made = ruled m of line w t c.if-working-lt64.false whole.over whole.few room ∙ sym by ∙ sym c.in_ok-record_of.ensures in
+    let r = c.in_ok-record_in.field-0 in
+    let made = ruled m of line w t c.if-working-lt64.false whole.over whole.few room ∙ sym by ∙ sym (c.in_ok-record_in.ensures.answer ∙ ap (rule m (box_of c.whole-over.result) (take t.held rs)) c.meaning.ensures) in
     let n = held_is t whole.over whole.few in
     let w' = set w t.held c.form.result in
     subst (λ s. Added m line s (records_in of w) (Ok t.held) (sheet_of c.hold.new.self) (records_in of w')) whole.means

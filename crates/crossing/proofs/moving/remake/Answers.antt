@@ -1,0 +1,46 @@
+use Rattle.std.proofs.Common.{◌+◌, ◌<◌, get_or, take, set, sym, refl, ap, ◌∙◌, subst, arith}
+use Rattle.boxes.specs.Stored.{box_of}
+use Rattle.crossing.proofs.Remade.{Making, making_on}
+use Rattle.crossing.specs.Memory.{records_in}
+use Rattle.line.specs.declared.line.Line.TheVariants.{Channel}
+use Rattle.rule.specs.Placed.{stored}
+use Rattle.rule.specs.Rule.{rule}
+use Rattle.sheet.proofs.Remaking.{bad_record}
+use Rattle.crossing.proofs.moving.remake.Goals as goal
+
+pub returns-in_err-record_in-clause-answer : goal.returns-in_err-record_in-clause-answer
+returns-in_err-record_in-clause-answer g c =
+    let m = g.K.NumberKind.model in
+    let b = box_of c.args.over.now in
+    let ls = c.args.lines.now in
+    let n = c.loop-n.n in
+    let i = c.loop-n.invariant in
+    let e = bad_record m b ls (records_in g.K.Crossing.mark_of c.args.memory.now) i.going (Channel 0) c.loop-n-test.true refl
+        (c.in_err-record_in.ensures.answer ∙ ap (λ w. rule m b w (get_or ls n (Channel 0))) i.both.same) c.from_residual.result c.from_residual.ensures.1 in
+    e.answer_is
+
+pub returns-in_err-record_in-clause-memory : goal.returns-in_err-record_in-clause-memory
+returns-in_err-record_in-clause-memory g c =
+    let m = g.K.NumberKind.model in
+    let b = box_of c.args.over.now in
+    let ls = c.args.lines.now in
+    let n = c.loop-n.n in
+    let i = c.loop-n.invariant in
+    let e = bad_record m b ls (records_in g.K.Crossing.mark_of c.args.memory.now) i.going (Channel 0) c.loop-n-test.true refl
+        (c.in_err-record_in.ensures.answer ∙ ap (λ w. rule m b w (get_or ls n (Channel 0))) i.both.same) c.from_residual.result c.from_residual.ensures.1 in
+    e.records_are
+
+pub loop-n-preserved : goal.loop-n-preserved
+loop-n-preserved g c =
+    let m = g.K.NumberKind.model in
+    let of = g.K.Crossing.mark_of in
+    let b = box_of c.args.over.now in
+    let ls = c.args.lines.now in
+    let n = c.loop-n.n in
+    let rs = c.loop-n.records in
+    let r = c.in_ok-record_in.field-0 in
+    let made = c.in_ok-record_in.ensures in
+    let h = c.loop-n-test.true in
+    let few = c.requires.few in
+    subst (λ rs. Making m of b ls c.args.memory.now (set c.loop-n.memory n c.form.result) rs (n + 1)) (sym (made.records ∙ ap (stored rs n) (sym made.answer)))
+    (making_on m of b ls c.args.memory.now c.loop-n.invariant (Channel 0) h (omega (arith, h, few)) refl r made.answer c.form.result c.form.ensures)
