@@ -1,6 +1,8 @@
 -- Records that are made anew, and written as they are made.
-use Rattle.std.proofs.Common.{◌≡◌, ℕ, ◌+◌, ◌<◌, ◌≤◌, List, [], ◌∷◌, ◌++◌, length, get_or, take, set, Ok, sym, ap, ◌∙◌, arith, length-set}
-use Rattle.std.proofs.lemmas.List.{take_more_set}
+use Rattle.std.proofs.Common.{◌≡◌, ℕ, ◌+◌, ◌-◌, ◌<◌, ◌≤◌, List, [], ◌∷◌, ◌++◌, length, get_or, map, take, drop, set, Ok, sym, ap, ap₂, ◌∙◌, arith, length-set, length-take-le}
+use Rattle.std.proofs.Math.Seq.{length_front, take-append-add}
+use Rattle.std.proofs.lemmas.Slice.{drop-append-drop}
+use Rattle.std.proofs.lemmas.List.{drop-map, drop-take, map-append, take-map, take-take, take_more_set}
 use Rattle.boxes.specs.Boxes.{Box}
 use Rattle.crossing.proofs.Grown.{put_beyond, put_in}
 use Rattle.crossing.proofs.Lent.{all_lent}
@@ -12,6 +14,7 @@ use Rattle.kind.specs.Model.{Model}
 use Rattle.line.specs.declared.line.Line.{Line}
 use Rattle.rule.specs.Rule.{rule}
 use Rattle.sheet.proofs.Remaking.{Going, going_on}
+use Rattle.sheet.specs.Reading.{overlaid}
 use Rattle.slope.specs.declared.record.Record.{Record}
 
 pub beyond_then : {a b c : List CRecord} → Beyond a b → Beyond b c → Beyond a c
@@ -49,3 +52,36 @@ module _ {K : Type 0} (m : Model K) (of : CMark → K) (b : Box) (ls : List Line
         both = record { room = long ∙ room; lent = omega (arith, lent, wide); same = more.0 };
         beyond = beyond_then g.beyond (put_beyond memory n c few);
       }
+
+-- the first h records of a memory become those of another
+module _ {K : Type 0} (of : CMark → K) (a b : List CRecord) (h : ℕ) (few : h ≤ 64) (long : 64 ≤ length a) where
+  abbrev meaning : List CRecord → List (Record K)
+  meaning = map (record_of of)
+
+  abbrev left : ℕ
+  left = 64 - h
+
+  all : h + left ≡ 64
+  all = omega (arith, few)
+
+  front_of : meaning (take h a) ≡ take h (records_in of a)
+  front_of = ap meaning (sym (take-take h 64 a few)) ∙ sym (take-map (record_of of) h (take 64 a))
+
+  rest_of : meaning (take left (drop h b)) ≡ drop h (records_in of b)
+  rest_of = ap meaning (sym (drop-take h left b) ∙ ap (λ n. drop h (take n b)) all) ∙ sym (drop-map (record_of of) h (take 64 b))
+
+  pub copied_in : records_in of (take h a ++ drop h b) ≡ overlaid (take h (records_in of a)) (records_in of b)
+  copied_in =
+      let n = length-take-le h a (omega (arith, few, long)) in
+      let k = all_lent of a long in
+      ap (λ i. meaning (take i (take h a ++ drop h b))) (sym all ∙ ap (λ i. i + left) (sym n))
+      ∙ ap meaning (take-append-add (take h a) (drop h b) left)
+      ∙ map-append (record_of of) (take h a) (take left (drop h b))
+      ∙ ap₂ (λ x y. x ++ y) front_of rest_of
+      ∙ ap (λ i. take h (records_in of a) ++ drop i (records_in of b)) (sym (length-take-le h (records_in of a) (omega (arith, few, k))))
+
+  pub copied_beyond : h ≤ length b → Beyond b (take h a ++ drop h b)
+  copied_beyond within = let n = length-take-le h a (omega (arith, few, long)) in record {
+    long = length_front b (take h a) h (n ∙ sym (length-take-le h b within));
+    rest = drop-append-drop h b (take h a) 64 few n;
+  }

@@ -7,4 +7,4 @@ pub mod Memory
 pub mod Answers
 pub mod Calls
 pub mod Windows
-pub mod Operands
+pub mod Found

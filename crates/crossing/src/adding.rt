@@ -3,7 +3,7 @@ ghost use Rattle.std.specs.Prelude.{◌≡◌, ◌+◌, ◌<◌, ◌≤◌, ◌+
 ghost use Rattle.crossing.specs.Calls.{Adds};
 ghost use Rattle.crossing.specs.Lines.{line_of};
 ghost use Rattle.crossing.specs.Memory.{Beyond, records_in};
-ghost use Rattle.crossing.specs.Operands.{Brought};
+ghost use Rattle.crossing.specs.Found.{Brought};
 ghost use Rattle.crossing.specs.Sheets.{lines_in, sheet_of};
 ghost use Rattle.sheet.specs.Calls.{Added};
 

@@ -5,11 +5,9 @@ ghost use Rattle.sheet.specs.Calls.{Opened, Struck, Written};
 
 use crate::answers::answer;
 use crate::boxed::stored;
-use crate::means::read_all;
 use crate::memory::{CAnswer, CSheet};
 use boxes::ChannelBox;
 use fault::{Cause, Fault};
-use line::Line;
 use runs::Answer;
 
 // A box over no lines. What a refused sheet held stays.
@@ -58,9 +56,7 @@ pub fn strike(sheet: &mut CSheet) -> CAnswer
 fn written(sheet: &CSheet, out: &mut [u8]) -> Result<usize, Fault>
     ensures { Written (sheet_of sheet.now) out.old result out.new }
 {
-    let (_, held) = sheet.parts();
-    let mut lines = [Line::Constant(0); 64];
-    read_all(&mut lines[..held], &sheet.lines[..held]);
+    let (lines, held) = sheet.table();
     writer::write(&lines[..held], out)
 }
 

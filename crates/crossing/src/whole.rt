@@ -5,8 +5,10 @@ ghost use Rattle.crossing.specs.Lines.{line_of};
 ghost use Rattle.crossing.specs.Sheets.{box_in, sheet_of};
 
 use crate::boxed::stored;
+use crate::means::read_all;
 use crate::memory::CSheet;
 use boxes::ChannelBox;
+use line::Line;
 
 impl CSheet {
     // The box that this memory means, and how many lines.
@@ -37,5 +39,17 @@ impl CSheet {
                 over
             }
         }
+    }
+
+    // A table that begins with the lines that this memory means, and how many those are.
+    pub(crate) fn table(&self) -> ([Line; 64], usize)
+        ensures lines { take result.1 result.0 ≡ (sheet_of self.now).lines }
+        ensures few { result.1 ≤ 64 }
+        ensures long { length result.0 ≡ 64 }
+    {
+        let (_, held) = self.parts();
+        let mut lines = [Line::Constant(0); 64];
+        read_all(&mut lines[..held], &self.lines[..held]);
+        (lines, held)
     }
 }

@@ -5,7 +5,7 @@ use Rattle.crossing.proofs.Lent.{all_lent, lent_at}
 use Rattle.crossing.proofs.Stands.{put_other, put_same}
 use Rattle.rule.proofs.Places.{nth_some}
 use Rattle.crossing.specs.Memory.{records_in}
-use Rattle.crossing.specs.Operands.{Brought}
+use Rattle.crossing.specs.Found.{Brought}
 use Rattle.crossing.proofs.adding.bring.Goals as goal
 
 pub returns-then-l-lt64-clause-here : goal.returns-then-l-lt64-clause-here
