@@ -1,5 +1,5 @@
 -- Sheets in memory that are sheets: what they mean, and what it is to hold a line less or more.
-use Rattle.std.proofs.Common.{◌≡◌, ℕ, ◌+◌, ◌-◌, ◌≤◌, nat_lt, Bool, cond, ◌==◌, List, length, map, take, true, false, Ok, Err, Result, refl, sym, ap, ◌∙◌, subst, arith, rules, length-take-le}
+use Rattle.std.proofs.Common.{◌≡◌, ℕ, ◌+◌, ◌-◌, ◌≤◌, nat_lt, Bool, cond, ◌==◌, List, [], length, map, take, true, false, Ok, Err, Result, refl, sym, ap, ◌∙◌, subst, arith, rules, length-take-le}
 use Rattle.std.proofs.lemmas.Bool.{ltb-false, ltb-true, ne_eqb}
 use Rattle.std.proofs.lemmas.List.{length-map, take-map, take-take}
 use Rattle.boxes.specs.Boxes.{Box}
@@ -52,3 +52,7 @@ few_lines s = over (box_in s.over)
     over : (o : Result Box Fault) → length (sheet_over s o).lines ≤ 64
     over (Ok b) = held b (nat_lt 64 s.held) refl
     over (Err f) = omega arith
+
+-- with no line
+pub none_held : (s : CSheet) {b : Box} → box_in s.over ≡ Ok b → s.held ≡ 0 → sheet_of s ≡ record { over = b; lines = [] }
+none_held s {b} over none = whole_is s over (omega (arith, none)) ∙ ap (λ n. record { over = b; lines = map line_of (take n s.lines) }) none

@@ -10,3 +10,4 @@ pub mod Lent
 pub mod Named
 pub mod Grown
 pub mod Remade
+pub mod ReadIn

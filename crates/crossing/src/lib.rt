@@ -14,6 +14,7 @@ mod means;
 mod memory;
 mod moving;
 mod plain;
+mod reading;
 mod records;
 mod reporting;
 mod room;
