@@ -1,16 +1,14 @@
 -- What adding a line in memory makes of it, case by case.
-use Rattle.std.proofs.Common.{◌≡◌, ℕ, ◌+◌, ◌<◌, ◌≤◌, ◌==◌, cond, nat_lt, true, false, List, [], ◌∷◌, ◌++◌, length, map, take, drop, set, Ok, Err, Result, refl, sym, ap, ◌∙◌, subst, arith, length-set}
-use Rattle.std.proofs.lemmas.Bool.{cond_above, cond_below, eq-eqb, ne_eqb}
+use Rattle.std.proofs.Common.{◌≡◌, ℕ, ◌+◌, ◌<◌, ◌≤◌, ◌==◌, cond, nat_lt, List, [], ◌∷◌, ◌++◌, length, map, take, set, Ok, Result, refl, sym, ap, ◌∙◌, arith, length-set}
+use Rattle.std.proofs.lemmas.Bool.{cond_above, cond_below, ne_eqb}
 use Rattle.std.proofs.lemmas.List.{drop-set-lt, map-set}
 use Rattle.std.proofs.Math.Seq.{take-set-lt}
 use Rattle.boxes.specs.Boxes.{Box}
 use Rattle.crossing.proofs.HeldIn.{few_lines, held_is, whole_is}
 use Rattle.crossing.proofs.Lent.{all_lent, few_lent}
-use Rattle.crossing.specs.Lines.{line_of}
 use Rattle.crossing.specs.Memory.{Beyond, records_in}
 use Rattle.crossing.specs.Records.{record_of}
 use Rattle.crossing.specs.Sheets.{box_in, lines_in, sheet_of}
-use Rattle.crossing.specs.declared.memory.CLine.{CLine}
 use Rattle.crossing.specs.declared.memory.CMark.{CMark}
 use Rattle.crossing.specs.declared.memory.CRecord.{CRecord}
 use Rattle.crossing.specs.declared.memory.CSheet.{CSheet}

@@ -1,5 +1,5 @@
 -- Sheets in memory that are sheets: what they mean, and what it is to hold a line less or more.
-use Rattle.std.proofs.Common.{◌≡◌, ℕ, ◌+◌, ◌-◌, ◌≤◌, nat_lt, Bool, cond, ◌==◌, List, [], length, map, take, true, false, Ok, Err, Result, refl, sym, ap, ◌∙◌, subst, arith, rules, length-take-le}
+use Rattle.std.proofs.Common.{◌≡◌, ℕ, ◌-◌, ◌≤◌, nat_lt, Bool, cond, ◌==◌, [], length, map, take, true, false, Ok, Err, Result, refl, sym, ap, ◌∙◌, arith, length-take-le}
 use Rattle.std.proofs.lemmas.Bool.{ltb-false, ltb-true, ne_eqb}
 use Rattle.std.proofs.lemmas.List.{length-map, take-map, take-take}
 use Rattle.boxes.specs.Boxes.{Box}
@@ -9,9 +9,8 @@ use Rattle.crossing.specs.declared.memory.CSheet.{CSheet}
 use Rattle.fault.specs.Refusals.{refused}
 use Rattle.fault.specs.declared.fault.Cause.TheVariants.{NoLine}
 use Rattle.fault.specs.declared.fault.Fault.{Fault}
-use Rattle.line.specs.declared.line.Line.{Line}
 use Rattle.sheet.specs.Calls.{Struck}
-use Rattle.sheet.specs.Contents.{Contents, blank}
+use Rattle.sheet.specs.Contents.{blank}
 
 few_held : {X : Type 0} (n : ℕ) (x y : X) → n ≤ 64 → cond (nat_lt 64 n) x y ≡ y
 few_held n x y few = go (nat_lt 64 n) refl

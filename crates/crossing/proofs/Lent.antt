@@ -1,5 +1,5 @@
 -- The records of a memory that are lent, one by one.
-use Rattle.std.proofs.Common.{◌≡◌, ℕ, ◌<◌, ◌≤◌, nat_lt, cond, ⊎_elim, ℤ, ap₂, List, length, get_or, map, take, Some, sym, ap, ◌∙◌, arith, length-take-le}
+use Rattle.std.proofs.Common.{◌≡◌, ℕ, ◌<◌, ◌≤◌, nat_lt, cond, ⊎_elim, ℤ, ap₂, List, length, get_or, take, Some, sym, ap, ◌∙◌, arith, length-take-le}
 use Rattle.std.proofs.Math.Nat.{min-le_right}
 use Rattle.std.proofs.lemmas.Bool.{cases_lt, le-ltb, lt-ltb}
 use Rattle.std.proofs.lemmas.List.{get_or-map, get_or-take, length-map, length-take}

@@ -1,5 +1,4 @@
 pub mod Proper
-pub mod Fronts
 pub mod ReadOnce
 pub mod Parsing
 pub mod Reported

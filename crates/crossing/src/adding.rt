@@ -1,20 +1,16 @@
 // Adding a line in memory: of the working lines the records of its operands are read, and its own is written.
 ghost use Rattle.std.specs.Prelude.{◌≡◌, ◌+◌, ◌<◌, ◌≤◌, ◌++◌, ◌∷◌, [], ℕ, length};
-ghost use Rattle.crossing.specs.Calls.{Adds};
 ghost use Rattle.crossing.specs.Lines.{line_of};
 ghost use Rattle.crossing.specs.Memory.{Beyond, records_in};
 ghost use Rattle.crossing.specs.Found.{Brought};
 ghost use Rattle.crossing.specs.Sheets.{lines_in, sheet_of};
 ghost use Rattle.sheet.specs.Calls.{Added};
 
-use crate::answers::answer;
 use crate::marks::Crossing;
 use crate::means::Means;
-use crate::memory::{CAnswer, CLine, CRecord, CSheet};
+use crate::memory::{CLine, CRecord, CSheet};
 use crate::making::record_in;
-use crate::room::Room;
 use fault::{Cause, Fault};
-use runs::Answer;
 use slope::Record;
 
 // The record of a working line, in its place.
@@ -57,8 +53,8 @@ impl CSheet {
     }
 }
 
-// (Apart from `add`, which answers as C has it.)
-fn add_line<K: Crossing>(
+// Appends a line, with its record in the working line of its number, which it answers.
+pub(crate) fn add_line<K: Crossing>(
     sheet: &mut CSheet,
     working: &mut [CRecord],
     records: &mut [Record<K>],
@@ -80,19 +76,4 @@ fn add_line<K: Crossing>(
     working[n] = CRecord::form(record_in(&over, records, n, line.meaning())?);
     sheet.hold(line);
     Ok(n)
-}
-
-pub fn add<K: Crossing>(
-    sheet: &mut CSheet,
-    working: &mut [CRecord],
-    room: &mut Room<K>,
-    line: CLine,
-) -> CAnswer
-    ensures { Adds K.NumberKind.model K.Crossing.mark_of line sheet.old working.old result sheet.new working.new }
-{
-    if line.operation > 10 {
-        return answer(Err(Cause::Operation.at(0)));
-    }
-    let added = add_line(sheet, working, &mut room.working, line);
-    answer(added.map(|n| Answer::Line(n)))
 }

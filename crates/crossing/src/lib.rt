@@ -18,14 +18,12 @@ mod reading;
 mod records;
 mod reporting;
 mod room;
-mod sheets;
 mod standing;
 mod station;
 mod whole;
 
-pub use adding::add;
 pub use calls::call;
-pub use each::{move_channel, read};
+pub use each::{add, move_channel, read};
 pub use marks::Crossing;
 pub use means::Means;
 pub use memory::{CAnswer, CBox, CLine, CMark, CRecord, CSheet, CSpan};

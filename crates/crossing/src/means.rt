@@ -20,12 +20,3 @@ pub(crate) fn read_all<T: Copy, C: Means<T>>(to: &mut [T], memory: &[C])
         to[i] = memory[i].meaning();
     }
 }
-
-pub(crate) fn write_all<T: Copy, C: Means<T>>(memory: &mut [C], meant: &[T])
-    requires { length memory.old ≡ length meant.now }
-    ensures { map C.Means.means memory.new ≡ meant.now }
-{
-    for i in 0..meant.len() {
-        memory[i] = C::form(meant[i]);
-    }
-}

@@ -11,7 +11,7 @@ use fault::{Cause, Fault};
 use runs::Answer;
 
 // A box over no lines. What a refused sheet held stays.
-fn opened(
+pub(crate) fn opened(
     sheet: &mut CSheet,
     lower: &[i64],
     upper: &[i64],
@@ -34,7 +34,7 @@ pub fn open(sheet: &mut CSheet, lower: &[i64], upper: &[i64], swept: usize, cent
 }
 
 // The last line is held no longer.
-fn struck(sheet: &mut CSheet) -> Result<(), Fault>
+pub(crate) fn struck(sheet: &mut CSheet) -> Result<(), Fault>
     ensures { Struck (sheet_of sheet.old) result (sheet_of sheet.new) }
 {
     sheet.whole();
@@ -53,7 +53,7 @@ pub fn strike(sheet: &mut CSheet) -> CAnswer
 }
 
 // The held lines are read, and written as bytes.
-fn written(sheet: &CSheet, out: &mut [u8]) -> Result<usize, Fault>
+pub(crate) fn written(sheet: &CSheet, out: &mut [u8]) -> Result<usize, Fault>
     ensures { Written (sheet_of sheet.now) out.old result out.new }
 {
     let (lines, held) = sheet.table();

@@ -3,6 +3,7 @@ ghost use Rattle.std.specs.Prelude.{◌≡◌, length, take};
 ghost use Rattle.crossing.specs.Calls.{Reports};
 ghost use Rattle.crossing.specs.Memory.{records_in};
 ghost use Rattle.crossing.specs.Sheets.{sheet_of};
+ghost use Rattle.sheet.specs.Calls.{Reported};
 ghost use Rattle.sheet.specs.Calls as calls;
 
 use crate::answers::reported;
@@ -13,8 +14,8 @@ use fault::{Cause, Fault};
 use report::{Report, report_of};
 use slope::Record;
 
-// (Apart from `report`, as in a sheet of the library's.)
-fn report_line<K: Crossing>(
+// (Apart from `report_line`, as in a sheet of the library's.)
+fn by_record<K: Crossing>(
     sheet: &CSheet,
     working: &[CRecord],
     line: usize,
@@ -30,6 +31,16 @@ fn report_line<K: Crossing>(
     }
     let record: Record<K> = working[line].meaning();
     Ok(report_of(&over, &record))
+}
+
+pub(crate) fn report_line<K: Crossing>(
+    sheet: &CSheet,
+    working: &[CRecord],
+    line: usize,
+) -> Result<Report, Fault>
+    ensures { Reported K.NumberKind.model line (sheet_of sheet.now) (records_in K.Crossing.mark_of working.now) result }
+{
+    by_record::<K>(sheet, working, line)
 }
 
 pub fn report<K: Crossing>(sheet: &CSheet, working: &[CRecord], line: usize) -> CAnswer

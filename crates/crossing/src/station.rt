@@ -139,13 +139,13 @@ pub fn windows<K: Crossing>(
     match formula_of(bytes) {
         Ok(formula) => windows_in(
             formula.lines(),
-            &mut room.working,
+            &mut room.records,
             line,
             &boxes[..windows],
             &mut answers[..windows],
         ),
         Err(_) => windows_over(
-            &mut room.working,
+            &mut room.records,
             bytes,
             line,
             &boxes[..windows],

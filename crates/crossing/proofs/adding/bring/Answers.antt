@@ -1,11 +1,10 @@
-use Rattle.std.proofs.Common.{◌≡◌, ℕ, ◌<◌, length, Some, set, sym, ap, ◌∙◌, subst, arith, ⊎_elim}
+use Rattle.std.proofs.Common.{◌≡◌, Some, set, sym, ap, ◌∙◌, subst, arith, ⊎_elim}
 use Rattle.std.proofs.lemmas.Bool.{cases_eq}
 use Rattle.std.specs.List.{slice_get}
 use Rattle.crossing.proofs.Lent.{all_lent, lent_at}
 use Rattle.crossing.proofs.Stands.{put_other, put_same}
 use Rattle.rule.proofs.Places.{nth_some}
 use Rattle.crossing.specs.Memory.{records_in}
-use Rattle.crossing.specs.Found.{Brought}
 use Rattle.crossing.proofs.adding.bring.Goals as goal
 
 pub returns-then-l-lt64-clause-here : goal.returns-then-l-lt64-clause-here

@@ -1,31 +1,66 @@
-use Rattle.std.proofs.Common.{ap, ◌∙◌, sym, subst}
-use Rattle.boxes.specs.Boxes.{Proper}
-use Rattle.crossing.proofs.Proper.{made_proper, sheet_proper}
+use Rattle.std.proofs.Common.{sym, refl, subst, rules, w64, to_z, of_z}
 use Rattle.crossing.specs.Memory.{in_memory, records_in}
 use Rattle.crossing.specs.Sheets.{sheet_of}
-use Rattle.runs.specs.Runs.{Made, state}
-use Rattle.sheet.specs.Contents.{contents}
+use Rattle.runs.proofs.Called.{opened_as}
+use Rattle.runs.specs.Runs.{Made}
+use Rattle.sheet.specs.Calls.{Added}
 use Rattle.crossing.proofs.calls.made.Goals as goal
 
-pub store-requires : goal.store-requires
-store-requires g c =
-    made_proper g.K.NumberKind.model
-    (state (contents c.sheet-held.result) c.load.new.records c.load-2.new.records c.args.out.now)
-    (state (contents c.make-answer.new.sheet) c.make-answer.new.working c.make-answer.new.spare c.make-answer.new.out)
-    c.make-answer.result c.args.call c.make-answer.ensures.made
-    (subst (λ s. Proper s.over) (sym c.sheet-held.ensures) (sheet_proper c.args.sheet.now))
-
-pub returns-clause-made : goal.returns-clause-made
-returns-clause-made g c =
-    let m = g.K.NumberKind.model in
+pub returns-in-Open-clause-made : goal.returns-in-Open-clause-made
+returns-in-Open-clause-made g c =
     let a = c.args in
-    let made = c.make-answer in
-    let of = records_in g.K.Crossing.mark_of in
-    let found = ap (λ s. state s c.load.new.records c.load-2.new.records a.out.now) c.sheet-held.ensures
-    ∙ ap (λ w. state (sheet_of a.sheet.now) w c.load-2.new.records a.out.now) c.load.ensures
-    ∙ ap (λ p. state (sheet_of a.sheet.now) (of a.working.now) p a.out.now) c.load-2.ensures in
-    let left = ap (λ s. state s made.new.working made.new.spare made.new.out) (sym c.store.ensures)
-    ∙ ap (λ w. state (sheet_of c.store.new.self) w made.new.spare made.new.out) (sym c.store-2.ensures.means)
-    ∙ ap (λ p. state (sheet_of c.store.new.self) (of c.store-2.new.memory) p made.new.out) (sym c.store-3.ensures.means) in
-    subst (λ x. Made m x (in_memory g.K.Crossing.mark_of c.store.new.self c.store-2.new.memory c.store-3.new.memory made.new.out) made.result a.call) found
-    (subst (λ y. Made m (state (contents c.sheet-held.result) c.load.new.records c.load-2.new.records a.out.now) y made.result a.call) left made.ensures.made)
+    let in_mem = in_memory g.K.Crossing.mark_of in
+    subst (Made g.K.NumberKind.model (in_mem a.sheet.now a.working.now a.spare.now a.out.now) (in_mem c.opened.new.sheet a.working.now a.spare.now a.out.now) c.accepted.result) (sym c.in-Open.is)
+    (c.opened.result, c.accepted.ensures, opened_as {x = to_z w64 (of_z w64 c.in-Open.o.centre)} {centre = c.in-Open.o.centre} (search rules) c.opened.ensures, refl, refl, refl)
+
+pub returns-in-Add-clause-made : goal.returns-in-Add-clause-made
+returns-in-Add-clause-made g c =
+    let a = c.args in
+    let of = g.K.Crossing.mark_of in
+    let t = c.add_line.new in
+    subst (Made g.K.NumberKind.model (in_memory of a.sheet.now a.working.now a.spare.now a.out.now) (in_memory of t.sheet t.working a.spare.now a.out.now) c.numbered.result) (sym c.in-Add.is)
+    (
+      c.add_line.result,
+      c.numbered.ensures,
+      subst (λ l. Added g.K.NumberKind.model l (sheet_of a.sheet.now) (records_in of a.working.now) c.add_line.result (sheet_of t.sheet) (records_in of t.working)) c.form.ensures c.add_line.ensures.call,
+      refl,
+      refl,
+    )
+
+pub returns-in-Strike-clause-made : goal.returns-in-Strike-clause-made
+returns-in-Strike-clause-made g c =
+    let a = c.args in
+    let in_mem = in_memory g.K.Crossing.mark_of in
+    subst (Made g.K.NumberKind.model (in_mem a.sheet.now a.working.now a.spare.now a.out.now) (in_mem c.struck.new.sheet a.working.now a.spare.now a.out.now) c.accepted-in-Strike.result) (sym c.in-Strike.is)
+    (c.struck.result, c.accepted-in-Strike.ensures, c.struck.ensures, refl, refl, refl)
+
+pub returns-in-Move-clause-made : goal.returns-in-Move-clause-made
+returns-in-Move-clause-made g c =
+    let a = c.args in
+    let in_mem = in_memory g.K.Crossing.mark_of in
+    let t = c.moved.new in
+    let v = c.in-Move.v in
+    subst (Made g.K.NumberKind.model (in_mem a.sheet.now a.working.now a.spare.now a.out.now) (in_mem t.sheet t.working t.spare a.out.now) c.accepted-in-Move.result) (sym c.in-Move.is)
+    (c.moved.result, c.accepted-in-Move.ensures, c.moved.ensures.call, refl)
+
+pub returns-in-Read-clause-made : goal.returns-in-Read-clause-made
+returns-in-Read-clause-made g c =
+    let a = c.args in
+    let in_mem = in_memory g.K.Crossing.mark_of in
+    let t = c.read_formula.new in
+    subst (Made g.K.NumberKind.model (in_mem a.sheet.now a.working.now a.spare.now a.out.now) (in_mem t.sheet t.working a.spare.now a.out.now) c.accepted-in-Read.result) (sym c.in-Read.is)
+    (c.read_formula.result, c.accepted-in-Read.ensures, c.read_formula.ensures.call, refl, refl)
+
+pub returns-in-Write-clause-made : goal.returns-in-Write-clause-made
+returns-in-Write-clause-made g c =
+    let a = c.args in
+    let in_mem = in_memory g.K.Crossing.mark_of in
+    subst (Made g.K.NumberKind.model (in_mem a.sheet.now a.working.now a.spare.now a.out.now) (in_mem a.sheet.now a.working.now a.spare.now c.written.new.out) c.measured.result) (sym c.in-Write.is)
+    (c.written.result, c.measured.ensures, c.written.ensures, refl, refl, refl)
+
+pub returns-in-Report-clause-made : goal.returns-in-Report-clause-made
+returns-in-Report-clause-made g c =
+    let a = c.args in
+    let in_mem = in_memory g.K.Crossing.mark_of in
+    subst (Made g.K.NumberKind.model (in_mem a.sheet.now a.working.now a.spare.now a.out.now) (in_mem a.sheet.now a.working.now a.spare.now a.out.now) c.told.result) (sym c.in-Report.is)
+    (c.report_line.result, c.told.ensures, c.report_line.ensures, refl, refl, refl, refl)

@@ -1,4 +1,4 @@
-use Rattle.std.proofs.Common.{get_or, Ok, Err, sym, ap, ◌∙◌}
+use Rattle.std.proofs.Common.{get_or, Ok, Err, ap, ◌∙◌}
 use Rattle.std.proofs.lemmas.List.{get_or-set_same}
 use Rattle.std.proofs.lemmas.Result.{err_from_is_err_and}
 use Rattle.boxes.specs.Stored.{box_of}

@@ -1,4 +1,4 @@
-use Rattle.std.proofs.Common.{◌≡◌, cond, is_ok, length, Ok, Err, sym, ap, ap₂, ◌∙◌, subst, rules, to_z, of_z, w64}
+use Rattle.std.proofs.Common.{is_ok, length, Ok, sym, ap, ◌∙◌, subst}
 use Rattle.boxes.proofs.Proper.{moved_proper}
 use Rattle.boxes.specs.Stored.{box_of, boxed}
 use Rattle.crossing.proofs.Lent.{box_alike}

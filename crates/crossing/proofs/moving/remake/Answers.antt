@@ -1,4 +1,4 @@
-use Rattle.std.proofs.Common.{◌+◌, ◌<◌, get_or, take, set, sym, refl, ap, ◌∙◌, subst, arith}
+use Rattle.std.proofs.Common.{◌+◌, get_or, set, sym, refl, ap, ◌∙◌, subst, arith}
 use Rattle.boxes.specs.Stored.{box_of}
 use Rattle.crossing.proofs.Remade.{Making, making_on}
 use Rattle.crossing.specs.Memory.{records_in}

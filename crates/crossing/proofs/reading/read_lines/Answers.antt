@@ -4,7 +4,7 @@ use Rattle.crossing.proofs.ReadIn.{Reading, reading_on}
 use Rattle.crossing.specs.Memory.{records_in}
 use Rattle.rule.specs.Placed.{stored}
 use Rattle.rule.specs.Rule.{rule}
-use Rattle.sheet.proofs.ReadLines.{Ended, bad_line, bad_record, going_end, stands_err, stands_ok}
+use Rattle.sheet.proofs.ReadLines.{bad_line, bad_record, going_end, stands_err, stands_ok}
 use Rattle.crossing.proofs.reading.read_lines.Goals as goal
 
 pub returns-in_err-line-clause-answer : goal.returns-in_err-line-clause-answer
