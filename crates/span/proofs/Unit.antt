@@ -1,6 +1,6 @@
 -- The span [1]: what is found to be it is it, and the product with it, on either side, is the span with its ends in order.
 -- (Spans of a sum may be exchanged, so that the product may stand first.)
-use Rattle.std.proofs.Common.{◌≡◌, true, Some, refl, ◌∙◌, ap₂}
+use Rattle.std.proofs.Common.{◌≡◌, true, Some, refl, ◌∙◌, ap, ap₂}
 use Rattle.std.proofs.lemmas.Bool.{and_parts}
 use Rattle.exact.proofs.Fractions.{*-cong, F_add_comm, F_mul_comm, F_one_mul, ≈_refl, ≈_sym, ≈_trans}
 use Rattle.exact.proofs.Order.{le_F_true, le_F_yes, ≤F_antisym, ≤F_of_≈, ≤F_refl, ≤F_trans}
@@ -66,5 +66,8 @@ module _ {K : Type 0} (m : Model K) (rules : Rules m) where
   pub sorted_twice : (s : Span K) → sorted m (sorted m s) ≡ sorted m s
   sorted_twice s = in_order (sorted m s) (≤F_trans (lesser_left m s.lower s.upper) (greater_left m s.lower s.upper))
 
-  pub sorted_one : sorted m (one_span m) ≡ one_span m
+  sorted_one : sorted m (one_span m) ≡ one_span m
   sorted_one = in_order (one_span m) (≤F_refl _)
+
+  pub one_one : product m (one_span m) (one_span m) ≡ Some (one_span m)
+  one_one = product_one (one_span m) ∙ ap Some sorted_one
