@@ -9,6 +9,7 @@ use Rattle.kind.proofs.Orders.{above_cong, above_mark, below_cong, below_mark}
 use Rattle.kind.specs.Model.{Model, Rules, greatest_product, least_product}
 use Rattle.span.proofs.Enclose.{greater_ind, greater_left, greater_right, lesser_ind, lesser_left, lesser_right}
 use Rattle.span.proofs.Least.{first_in, greatest_is, least_is, product_turned, third_in}
+use Rattle.span.specs.Narrowest.{Ordered}
 use Rattle.span.specs.Spans.{ends, greater_mark, is_one, lesser_mark, one_span, product, sorted, span, sum}
 use Rattle.span.specs.declared.span.Span.{Span}
 
@@ -60,14 +61,11 @@ module _ {K : Type 0} (m : Model K) (rules : Rules m) where
   sum_turned s t = ap₂ (ends m) (below_cong m rules (F_add_comm _ _)) (above_cong m rules (F_add_comm _ _))
 
   -- ---- what is in order stays as it is
-  in_order : (s : Span K) → m.value s.lower ≤F m.value s.upper → sorted m s ≡ s
+  in_order : (s : Span K) → Ordered m s → sorted m s ≡ s
   in_order s h = rw (le_F_true _ _ h) refl
 
   pub sorted_twice : (s : Span K) → sorted m (sorted m s) ≡ sorted m s
   sorted_twice s = in_order (sorted m s) (≤F_trans (lesser_left m s.lower s.upper) (greater_left m s.lower s.upper))
 
-  sorted_one : sorted m (one_span m) ≡ one_span m
-  sorted_one = in_order (one_span m) (≤F_refl _)
-
   pub one_one : product m (one_span m) (one_span m) ≡ Some (one_span m)
-  one_one = product_one (one_span m) ∙ ap Some sorted_one
+  one_one = product_one (one_span m) ∙ ap Some (in_order (one_span m) (≤F_refl _))
