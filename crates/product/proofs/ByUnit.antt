@@ -1,13 +1,13 @@
 -- What slopes [1], [1], [0] leave of the product's rule.
 use Rattle.std.proofs.Common.{◌≡◌, true, Some}
-use Rattle.exact.specs.Optional.{◌>>=◌}
 use Rattle.kind.specs.Model.{Model, Rules}
 use Rattle.product.specs.Unit.{by_unit, of_units, unit_by}
 use Rattle.slope.proofs.Unit.{is_unit_is}
 use Rattle.slope.specs.Rules.{is_unit, product_slopes}
 use Rattle.slope.specs.declared.record.Record.{Record}
 use Rattle.slope.specs.declared.record.Slopes.{Slopes}
-use Rattle.span.proofs.Unit.{one_one, one_product, product_one, sum_turned}
+use Rattle.span.proofs.SumNarrow.{sum_turned}
+use Rattle.span.proofs.Unit.{one_one, one_product, product_one}
 use Rattle.span.proofs.Zero.{product_zero, sum_zero, zero_product, zero_sum}
 use Rattle.span.specs.Spans.{sorted}
 

@@ -1,16 +1,15 @@
 -- The span [1]: what is found to be it is it, and the product with it, on either side, is the span with its ends in order.
--- (Spans of a sum may be exchanged, so that the product may stand first.)
 use Rattle.std.proofs.Common.{◌≡◌, true, Some, refl, ◌∙◌, ap, ap₂}
 use Rattle.std.proofs.lemmas.Bool.{and_parts}
-use Rattle.exact.proofs.Fractions.{*-cong, F_add_comm, F_mul_comm, F_one_mul, ≈_refl, ≈_sym, ≈_trans}
+use Rattle.exact.proofs.Fractions.{*-cong, F_mul_comm, F_one_mul, ≈_refl, ≈_sym, ≈_trans}
 use Rattle.exact.proofs.Order.{le_F_true, le_F_yes, ≤F_antisym, ≤F_of_≈, ≤F_refl, ≤F_trans}
 use Rattle.exact.specs.Fraction.{Frac, ◌*F◌, ◌≈◌, ◌≤F◌}
-use Rattle.kind.proofs.Orders.{above_cong, above_mark, below_cong, below_mark}
+use Rattle.kind.proofs.Orders.{above_mark, below_mark}
 use Rattle.kind.specs.Model.{Model, Rules, greatest_product, least_product}
 use Rattle.span.proofs.Enclose.{greater_ind, greater_left, greater_right, lesser_ind, lesser_left, lesser_right}
 use Rattle.span.proofs.Least.{first_in, greatest_is, least_is, product_turned, third_in}
 use Rattle.span.specs.Narrowest.{Ordered}
-use Rattle.span.specs.Spans.{ends, greater_mark, is_one, lesser_mark, one_span, product, sorted, span, sum}
+use Rattle.span.specs.Spans.{ends, greater_mark, is_one, lesser_mark, one_span, product, sorted, span}
 use Rattle.span.specs.declared.span.Span.{Span}
 
 module _ {K : Type 0} (m : Model K) (rules : Rules m) where
@@ -56,9 +55,6 @@ module _ {K : Type 0} (m : Model K) (rules : Rules m) where
 
   pub one_product : (s : Span K) → product m (one_span m) s ≡ Some (sorted m s)
   one_product s = product_turned m rules (one_span m) s ∙ product_one s
-
-  pub sum_turned : (s t : Span K) → sum m s t ≡ sum m t s
-  sum_turned s t = ap₂ (ends m) (below_cong m rules (F_add_comm _ _)) (above_cong m rules (F_add_comm _ _))
 
   -- ---- what is in order stays as it is
   in_order : (s : Span K) → Ordered m s → sorted m s ≡ s
