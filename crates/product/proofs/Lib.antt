@@ -1,3 +1,4 @@
 pub mod Kept
 pub mod Zeros
 pub mod ByConstant
+pub mod ByUnit

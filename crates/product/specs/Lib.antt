@@ -1,2 +1,3 @@
 pub mod Scaled
 pub mod Bent
+pub mod Unit

@@ -2,6 +2,7 @@
 #![tactic(auto)]
 
 mod constants;
+mod units;
 
 ghost use Rattle.std.specs.Prelude.{◌≡◌};
 ghost use Rattle.slope.specs.Rules.{given, rec};
@@ -17,6 +18,7 @@ use fault::Fault;
 use kind::NumberKind;
 use slope::{Base, Record, Slopes, present};
 use span::Span;
+use units::{by_unit, of_units, unit_by};
 
 // x × y part by part, or no slopes
 #[inline(always)]
@@ -108,7 +110,7 @@ fn whole_rule<K: NumberKind>(base: Base<K>, p: &Record<K>, q: &Record<K>) -> Rec
     bent(base, a, b, p, q)
 }
 
-// The rule without the products by [0] of an operand that stands still.
+// The rule without the products by [0] of an operand that stands still, and by [1] of one with slopes [1], [1], [0].
 #[inline(always)]
 fn product_slopes<K: NumberKind>(base: Base<K>, p: &Record<K>, q: &Record<K>) -> Record<K>
     ensures { result ≡ rec base.u base.u0 (rules.product_slopes K.NumberKind.model p.now q.now) }
@@ -137,6 +139,15 @@ fn product_slopes<K: NumberKind>(base: Base<K>, p: &Record<K>, q: &Record<K>) ->
             c: p.u,
         };
         return scaled(base, &factors, t);
+    }
+    if t.is_unit() {
+        if s.is_unit() {
+            return of_units(base, p, q);
+        }
+        return by_unit(base, p, s, q);
+    }
+    if s.is_unit() {
+        return unit_by(base, p, q, t);
     }
     whole_rule(base, p, q)
 }

@@ -43,6 +43,10 @@ module _ {K : Type 0} (m : Model K) where
   abbrev pub is_still : Slopes K → Bool
   is_still s = (spans.is_zero m s.a && spans.is_zero m s.b) && spans.is_zero m s.c
 
+  -- the slopes are [1], [1], [0]
+  abbrev pub is_unit : Slopes K → Bool
+  is_unit s = (spans.is_one m s.a && spans.is_one m s.b) && spans.is_zero m s.c
+
   -- ---- sum, difference and negative, part by part
   abbrev pub negated_slopes : Slopes K → Slopes K
   negated_slopes s = record { a = spans.negated m s.a; b = spans.negated m s.b; c = spans.negated m s.c }

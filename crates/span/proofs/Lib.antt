@@ -11,3 +11,4 @@ pub mod Lawful
 pub mod Agreed
 pub mod Zero
 pub mod Points
+pub mod Unit

@@ -1,14 +1,15 @@
 -- Sums, differences, hulls, meets and ranges of counts.
-use Rattle.std.proofs.Common.{[], ◌∷◌, ℤ, refl}
-use Rattle.exact.proofs.Fractions.{neg_neg, ring_F, ≈_refl, ≈_sym, ≈_trans}
+use Rattle.std.proofs.Common.{◌≡◌, [], ◌∷◌, ℤ, refl, ap₂}
+use Rattle.exact.proofs.Fractions.{F_add_comm, neg_neg, ring_F, ≈_refl, ≈_sym, ≈_trans}
 use Rattle.exact.proofs.Order.{+F_mono, neg_mono, ≤F_of_≈, ≤F_refl, ≤F_trans}
 use Rattle.exact.proofs.Ring.{◌⊕◌, ◌⊖◌, x0, x1, ⊝◌}
 use Rattle.exact.specs.Fraction.{Frac, ◌≤F◌, neg_F}
+use Rattle.kind.proofs.Orders.{above_cong, below_cong}
 use Rattle.kind.specs.Model.{Model, Rules, count}
 use Rattle.span.proofs.Enclose.{enclose, exact_fits, greater_ind, greater_left, greater_right, hull_fits, lesser_ind, lesser_left, lesser_right, lower_in, same, upper_in}
 use Rattle.span.specs.Laws.{Counts, Differences, Either, MeetLaw, Sums}
 use Rattle.span.specs.Narrowest.{Fitting, Held, Narrowest, Ordered}
-use Rattle.span.specs.Spans.{difference, hull, meet, negated, of_counts, sum}
+use Rattle.span.specs.Spans.{difference, ends, hull, meet, negated, of_counts, sum}
 use Rattle.span.specs.declared.span.Span.{Span}
 
 module _ {K : Type 0} (m : Model K) where
@@ -25,6 +26,10 @@ module _ {K : Type 0} (m : Model K) where
         })
 
   module _ (rules : Rules m) where
+    -- the spans of a sum may be exchanged
+    pub sum_turned : (s t : Span K) → sum m s t ≡ sum m t s
+    sum_turned s t = ap₂ (ends m) (below_cong m rules (F_add_comm _ _)) (above_cong m rules (F_add_comm _ _))
+
     -- the opposite span holds the opposites
     pub opposite_held : (s : Span K) (x : Frac) → Held m s x → Held m (negated m s) (neg_F x)
     opposite_held s x h = record {

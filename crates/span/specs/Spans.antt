@@ -48,6 +48,10 @@ module _ {K : Type 0} (m : Model K) where
   abbrev pub is_zero : Span K → Bool
   is_zero s = is_nought s.lower && is_nought s.upper
 
+  -- the span is [1]
+  abbrev pub is_one : Span K → Bool
+  is_one s = ((at_most m m.unit s.lower && at_most m s.upper m.unit) && at_most m s.lower m.unit) && at_most m m.unit s.upper
+
   -- k where the span is [k]
   abbrev pub sole : Span K → Option K
   sole s = cond (at_most m s.upper s.lower && at_most m s.lower s.upper) (Some s.lower) None
@@ -55,6 +59,10 @@ module _ {K : Type 0} (m : Model K) where
   -- s's lower end is not below t's upper end
   abbrev pub clears : Span K → Span K → Bool
   clears s t = at_most m t.upper s.lower
+
+  -- the ends in order
+  abbrev pub sorted : Span K → Span K
+  sorted s = span (lesser_mark s.lower s.upper) (greater_mark s.lower s.upper)
 
   abbrev pub negated : Span K → Span K
   negated s = span (m.opposite s.upper) (m.opposite s.lower)

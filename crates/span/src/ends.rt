@@ -67,6 +67,17 @@ impl<K: NumberKind> Span<K> {
         is_nought(self.lower) && is_nought(self.upper)
     }
 
+    // Whether the span is [1].
+    #[inline(always)]
+    pub fn is_one(self) -> bool
+        ensures { result ≡ spans.is_one K.NumberKind.model self }
+    {
+        K::one().at_most(self.lower)
+            && self.upper.at_most(K::one())
+            && self.lower.at_most(K::one())
+            && K::one().at_most(self.upper)
+    }
+
     // The mark k, where the span is [k].
     #[inline(always)]
     pub fn sole(self) -> Option<K>
@@ -85,6 +96,17 @@ impl<K: NumberKind> Span<K> {
         ensures { result ≡ spans.clears K.NumberKind.model self other }
     {
         other.upper.at_most(self.lower)
+    }
+
+    // The ends in order, as the product with [1] has them.
+    #[inline(always)]
+    pub fn sorted(self) -> Span<K>
+        ensures { result ≡ spans.sorted K.NumberKind.model self }
+    {
+        Span {
+            lower: lesser_mark(self.lower, self.upper),
+            upper: greater_mark(self.lower, self.upper),
+        }
     }
 
     #[inline(always)]
