@@ -36,7 +36,7 @@ module _ (s s' : CSheet) {b : Box} (over : box_in s.over ≡ Ok b) (few : s.held
     answer = sym (ap (λ t. cond t (refused NoLine 0) (Ok tt)) (ap (λ n. n == 0) (held_is s over few) ∙ ne_eqb s.held 0 some));
     sheet = whole_is s' over_is (omega (arith, eh, few))
         ∙ ap (λ ls. record { over = b; lines = ls })
-            (ap (λ n. map line_of (take n s'.lines)) eh ∙ ap (λ ls. map line_of (take (s.held - 1) ls)) el ∙ ap (map line_of) (sym (take-take (s.held - 1) s.held s.lines (omega arith))) ∙ sym (take-map line_of (s.held - 1) (take s.held s.lines)) ∙ ap (λ n. take (n - 1) (lines_in s)) (sym (held_is s over few)))
+        (ap (λ n. map line_of (take n s'.lines)) eh ∙ ap (λ ls. map line_of (take (s.held - 1) ls)) el ∙ ap (map line_of) (sym (take-take (s.held - 1) s.held s.lines (omega arith))) ∙ sym (take-map line_of (s.held - 1) (take s.held s.lines)) ∙ ap (λ n. take (n - 1) (lines_in s)) (sym (held_is s over few)))
         ∙ ap (λ c. record { over = c.over; lines = take (length (sheet_of s).lines - 1) c.lines }) (sym (whole_is s over few));
   }
 

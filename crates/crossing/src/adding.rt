@@ -6,10 +6,10 @@ ghost use Rattle.crossing.specs.Found.{Brought};
 ghost use Rattle.crossing.specs.Sheets.{lines_in, sheet_of};
 ghost use Rattle.sheet.specs.Calls.{Added};
 
+use crate::making::record_in;
 use crate::marks::Crossing;
 use crate::means::Means;
 use crate::memory::{CLine, CRecord, CSheet};
-use crate::making::record_in;
 use fault::{Cause, Fault};
 use slope::Record;
 

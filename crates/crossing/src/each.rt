@@ -53,4 +53,3 @@ pub fn read<K: Crossing>(
 {
     answer(call(sheet, working, &mut [], &mut [], room, Call::Read(bytes)))
 }
-

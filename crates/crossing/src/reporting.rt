@@ -15,11 +15,7 @@ use report::{Report, report_of};
 use slope::Record;
 
 // (Apart from `report_line`, as in a sheet of the library's.)
-fn by_record<K: Crossing>(
-    sheet: &CSheet,
-    working: &[CRecord],
-    line: usize,
-) -> Result<Report, Fault>
+fn by_record<K: Crossing>(sheet: &CSheet, working: &[CRecord], line: usize) -> Result<Report, Fault>
     ensures { result ≡ calls.report K.NumberKind.model (sheet_of sheet.now) (length (records_in K.Crossing.mark_of working.now)) (take (length (sheet_of sheet.now).lines) (records_in K.Crossing.mark_of working.now)) line }
 {
     if working.len() < 64 {

@@ -1,4 +1,4 @@
-// The fixed kind keeps the rules of a kind; its arithmetic stays in 64 bits.
+// The fixed kind keeps the rules of a kind; its arithmetic stays in 64 bits, and that of sums in 32.
 ghost use Rattle.std.specs.Prelude.{◌≡◌};
 ghost use Rattle.exact.specs.Fraction.{◌*F◌};
 ghost use Rattle.kind.specs.Model as kinds;
@@ -8,8 +8,11 @@ ghost use Rattle.fixed.specs.Ratios as ratios;
 ghost use Rattle.fixed.specs.Rules.{fixed_rules};
 
 use crate::mark::Fixed;
-use crate::ratio::{Product, Ratio, TOP};
+use crate::ratio::{Product, Ratio};
 use kind::NumberKind;
+
+// The greatest count of a mark, in a mark's own 32 bits.
+const MOST: i32 = 1_073_741_823;
 
 impl Fixed {
     // The mark of a number of counts. The marks of this kind are m/65,536 for each count m, and no others.
@@ -18,7 +21,7 @@ impl Fixed {
         ensures value { result ≡ mark_of n }
         ensures marks { FixedMarks }
     {
-        whole(n)
+        whole(i32::try_from(n).ok()?)
     }
 
     #[inline(always)]
@@ -31,24 +34,24 @@ impl Fixed {
 
 // The mark of n counts. Nothing is rounded, so it is also the one below and the one above.
 #[inline(always)]
-fn whole(n: i64) -> Option<Fixed>
+fn whole(n: i32) -> Option<Fixed>
     ensures value { result ≡ mark_of n }
     ensures below { result ≡ kinds.count_below fixed_model n }
     ensures above { result ≡ kinds.count_above fixed_model n }
 {
-    if n < -TOP || n > TOP {
+    if n < -MOST || n > MOST {
         return None;
     }
-    Some(Fixed { count: n as i32 })
+    Some(Fixed { count: n })
 }
 
-// The sum of two marks is a number of counts.
+// The sum of two marks is a number of counts, which 32 bits hold.
 #[inline(always)]
 fn sum(a: Fixed, b: Fixed) -> Option<Fixed>
     ensures below { result ≡ kinds.sum_below fixed_model a b }
     ensures above { result ≡ kinds.sum_above fixed_model a b }
 {
-    whole(i64::from(a.count) + i64::from(b.count))
+    whole(a.count + b.count)
 }
 
 #[inline(always)]
@@ -142,12 +145,12 @@ impl NumberKind for Fixed {
 
     #[inline(always)]
     fn count_below(n: i32) -> Option<Fixed> {
-        whole(i64::from(n))
+        whole(n)
     }
 
     #[inline(always)]
     fn count_above(n: i32) -> Option<Fixed> {
-        whole(i64::from(n))
+        whole(n)
     }
 
     #[inline(always)]

@@ -45,7 +45,7 @@ returns-in_err-record_in-clause-call g c =
     let all = all_lent of w c.if-working-lt64.false in
     let few = whole.few in
     let by = by_operands m (box_of c.whole-over.result) rs (records_in of w) t.held (omega (arith, few, long)) (omega (arith, few, all)) c.args.line
-        (λ h. brought.first (omega (arith, few, h))) (λ h. brought.second (omega (arith, few, h))) (λ h. brought.third (omega (arith, few, h))) in
+    (λ h. brought.first (omega (arith, few, h))) (λ h. brought.second (omega (arith, few, h))) (λ h. brought.third (omega (arith, few, h))) in
     let made = ruled m of line w t c.if-working-lt64.false whole.over whole.few (λ e. c.if-n-eq64.false e) ∙ sym by ∙ sym (c.in_err-record_in.ensures.answer ∙ ap (rule m (box_of c.whole-over.result) (take t.held rs)) c.meaning.ensures) in
     let e = err_from_is_err_and c.from_residual.result c.from_residual.ensures.1 in
     subst (λ s. Added m line s (records_in of w) c.from_residual.result (sheet_of t) (records_in of w)) whole.means
@@ -67,15 +67,15 @@ returns-clause-call g c =
     let room = c.if-n-eq64.false in
     let less : t.held < 64 = omega (arith, few, room) in
     let by = by_operands m (box_of c.whole-over.result) rs (records_in of w) t.held (omega (arith, few, long)) (omega (arith, few, all)) c.args.line
-        (λ h. brought.first (omega (arith, few, h))) (λ h. brought.second (omega (arith, few, h))) (λ h. brought.third (omega (arith, few, h))) in
+    (λ h. brought.first (omega (arith, few, h))) (λ h. brought.second (omega (arith, few, h))) (λ h. brought.third (omega (arith, few, h))) in
     let r = c.in_ok-record_in.field-0 in
     let made = ruled m of line w t c.if-working-lt64.false whole.over whole.few room ∙ sym by ∙ sym (c.in_ok-record_in.ensures.answer ∙ ap (rule m (box_of c.whole-over.result) (take t.held rs)) c.meaning.ensures) in
     let n = held_is t whole.over whole.few in
     let w' = set w t.held c.form.result in
     subst (λ s. Added m line s (records_in of w) (Ok t.held) (sheet_of c.hold.new.self) (records_in of w')) whole.means
     (added_by m of line w t (Ok r) made (ap Ok (sym n))
-        (one_more m of line w t c.if-working-lt64.false whole.over whole.few c.hold.new.self c.hold.ensures.over c.hold.ensures.held less c.hold.ensures.lines)
-        (put_in w t.held c.form.result less of ∙ ap (set (records_in of w) t.held) c.form.ensures ∙ ap (λ k. set (records_in of w) k r) (sym n)))
+    (one_more m of line w t c.if-working-lt64.false whole.over whole.few c.hold.new.self c.hold.ensures.over c.hold.ensures.held less c.hold.ensures.lines)
+    (put_in w t.held c.form.result less of ∙ ap (set (records_in of w) t.held) c.form.ensures ∙ ap (λ k. set (records_in of w) k r) (sym n)))
 
 pub returns-clause-beyond : goal.returns-clause-beyond
 returns-clause-beyond g c =

@@ -24,6 +24,6 @@ returns-then-l-lt64-clause-rest g c k before h =
     let all = all_lent of memory c.requires.lent in
     let is = nth_some (records_in of memory) k (omega (arith, h, all)) in
     ⊎_elim
-        (λ e. subst (λ i. slice_get (set rs l c.meaning.result) i ≡ slice_get (records_in of memory) i) (sym e) here)
-        (λ n. put_other rs l k c.meaning.result n is.0 (before h ∙ is.1) ∙ sym is.1)
-        (cases_eq k l)
+    (λ e. subst (λ i. slice_get (set rs l c.meaning.result) i ≡ slice_get (records_in of memory) i) (sym e) here)
+    (λ n. put_other rs l k c.meaning.result n is.0 (before h ∙ is.1) ∙ sym is.1)
+    (cases_eq k l)

@@ -18,8 +18,7 @@ returns-in-Add-clause-made g c =
     let a = c.args in
     let of = g.K.Crossing.mark_of in
     let t = c.add_line.new in
-    subst (Made g.K.NumberKind.model (in_memory of a.sheet.now a.working.now a.spare.now a.out.now) (in_memory of t.sheet t.working a.spare.now a.out.now) c.numbered.result) (sym c.in-Add.is)
-    (
+    subst (Made g.K.NumberKind.model (in_memory of a.sheet.now a.working.now a.spare.now a.out.now) (in_memory of t.sheet t.working a.spare.now a.out.now) c.numbered.result) (sym c.in-Add.is) (
       c.add_line.result,
       c.numbered.ensures,
       subst (λ l. Added g.K.NumberKind.model l (sheet_of a.sheet.now) (records_in of a.working.now) c.add_line.result (sheet_of t.sheet) (records_in of t.working)) c.form.ensures c.add_line.ensures.call,

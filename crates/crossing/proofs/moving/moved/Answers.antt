@@ -43,5 +43,5 @@ returns-clause-call g c =
     let p = records_in of a.spare.now in
     let t = c.move_to.new in
     subst (λ o. MovedTo m o s w p c.move_to.result (sheet_of t.sheet) (records_in of t.working) (records_in of t.spare))
-        (sym (sym (box_alike of s a.working.now a.spare.now v.channel v.lower v.upper v.centre) ∙ sym c.new_box.ensures.answer ∙ ap boxed c.in_ok-over.was))
+    (sym (sym (box_alike of s a.working.now a.spare.now v.channel v.lower v.upper v.centre) ∙ sym c.new_box.ensures.answer ∙ ap boxed c.in_ok-over.was))
     (subst (λ s. MovedTo m (Ok (box_of c.in_ok-over.over)) s w p c.move_to.result (sheet_of t.sheet) (records_in of t.working) (records_in of t.spare)) c.new_box.ensures.means c.move_to.ensures.call)

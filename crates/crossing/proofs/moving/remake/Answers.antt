@@ -16,7 +16,7 @@ returns-in_err-record_in-clause-answer g c =
     let n = c.loop-n.n in
     let i = c.loop-n.invariant in
     let e = bad_record m b ls (records_in g.K.Crossing.mark_of c.args.memory.now) i.going (Channel 0) c.loop-n-test.true refl
-        (c.in_err-record_in.ensures.answer ∙ ap (λ w. rule m b w (get_or ls n (Channel 0))) i.both.same) c.from_residual.result c.from_residual.ensures.1 in
+    (c.in_err-record_in.ensures.answer ∙ ap (λ w. rule m b w (get_or ls n (Channel 0))) i.both.same) c.from_residual.result c.from_residual.ensures.1 in
     e.answer_is
 
 pub returns-in_err-record_in-clause-memory : goal.returns-in_err-record_in-clause-memory
@@ -27,7 +27,7 @@ returns-in_err-record_in-clause-memory g c =
     let n = c.loop-n.n in
     let i = c.loop-n.invariant in
     let e = bad_record m b ls (records_in g.K.Crossing.mark_of c.args.memory.now) i.going (Channel 0) c.loop-n-test.true refl
-        (c.in_err-record_in.ensures.answer ∙ ap (λ w. rule m b w (get_or ls n (Channel 0))) i.both.same) c.from_residual.result c.from_residual.ensures.1 in
+    (c.in_err-record_in.ensures.answer ∙ ap (λ w. rule m b w (get_or ls n (Channel 0))) i.both.same) c.from_residual.result c.from_residual.ensures.1 in
     e.records_are
 
 pub loop-n-preserved : goal.loop-n-preserved

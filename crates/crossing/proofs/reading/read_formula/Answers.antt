@@ -37,7 +37,7 @@ returns-then-sheet-gt0-clause-call g c =
     let some = c.if-sheet-gt0.true in
     subst (λ s. Read m c.args.bytes.now s (records_in of w) (Err c.at-then-sheet-gt0.result) (sheet_of t) (records_in of w)) whole.means
     (refused_by m c.args.bytes.now (sheet_of t) (records_in of w) (ends (refused NotEmpty 0) [] [])
-        (not_empty m (sheet_of t) (records_in of w) c.args.bytes.now (omega (arith, all)) (omega (arith, n, some))) refl (ap Err c.at-then-sheet-gt0.ensures) refl refl)
+    (not_empty m (sheet_of t) (records_in of w) c.args.bytes.now (omega (arith, all)) (omega (arith, n, some))) refl (ap Err c.at-then-sheet-gt0.ensures) refl refl)
 
 pub returns-in_err-count-clause-call : goal.returns-in_err-count-clause-call
 returns-in_err-count-clause-call g c =
@@ -52,7 +52,7 @@ returns-in_err-count-clause-call g c =
     let e = err_from_is_err_and c.from_residual.result c.from_residual.ensures.1 in
     subst (λ s. Read m c.args.bytes.now s (records_in of w) c.from_residual.result (sheet_of t) (records_in of w)) whole.means
     (refused_by m c.args.bytes.now (sheet_of t) (records_in of w) (ends (Err c.in_err-count.field-0.0) [] [])
-        (uncounted m c.args.bytes.now (sheet_of t) (records_in of w) (omega (arith, all)) (omega (arith, n, none)) (sym c.in_err-count.ensures)) (e.1 ∙ ap Err e.2) (e.1 ∙ ap Err e.2) refl refl)
+    (uncounted m c.args.bytes.now (sheet_of t) (records_in of w) (omega (arith, all)) (omega (arith, n, none)) (sym c.in_err-count.ensures)) (e.1 ∙ ap Err e.2) (e.1 ∙ ap Err e.2) refl refl)
 
 pub read_lines-requires-clause-most : goal.read_lines-requires-clause-most
 read_lines-requires-clause-most g c = count_few c.args.bytes.now (sym c.in_ok-count.ensures)
@@ -75,9 +75,9 @@ returns-in_err-read_lines-clause-call g c =
     let is = e.1 ∙ ap Err e.2 in
     subst (λ s. Read m c.args.bytes.now s (records_in of w) c.from_residual-in_err-read_lines.result (sheet_of u) (records_in of c.read_lines.new.working)) whole.means
     (refused_by m c.args.bytes.now (sheet_of t) (records_in of w) (read_lines m b c.in_ok-count.count c.args.bytes.now c.in_ok-count.from.at [] [])
-        (counted m c.args.bytes.now (sheet_of t) (records_in of w) (omega (arith, all)) (omega (arith, n, none)) (ap (λ c. c.over) (whole_is t whole.over whole.few)) (sym c.in_ok-count.ensures))
-        is (is ∙ sym c.in_err-read_lines.was ∙ read.answer)
-        (none_held u (ap box_in read.over ∙ whole.over) (omega (arith, held, none)) ∙ sym (none_held t whole.over (omega (arith, none)))) read.records)
+    (counted m c.args.bytes.now (sheet_of t) (records_in of w) (omega (arith, all)) (omega (arith, n, none)) (ap (λ c. c.over) (whole_is t whole.over whole.few)) (sym c.in_ok-count.ensures))
+    is (is ∙ sym c.in_err-read_lines.was ∙ read.answer)
+    (none_held u (ap box_in read.over ∙ whole.over) (omega (arith, held, none)) ∙ sym (none_held t whole.over (omega (arith, none)))) read.records)
 
 pub returns-clause-call : goal.returns-clause-call
 returns-clause-call g c =
@@ -97,9 +97,9 @@ returns-clause-call g c =
     let left : CSheet = record { over = u.over; held = count; lines = u.lines; whole = c.sheet-1.given.0 } in
     subst (λ s. Read m c.args.bytes.now s (records_in of w) (Ok tt) (sheet_of left) (records_in of c.read_lines.new.working)) whole.means
     (read_by m c.args.bytes.now (sheet_of t) (records_in of w) (read_lines m b count c.args.bytes.now c.in_ok-count.from.at [] [])
-        (counted m c.args.bytes.now (sheet_of t) (records_in of w) (omega (arith, all)) (omega (arith, n, none)) over (sym c.in_ok-count.ensures))
-        (sym c.in_ok-read_lines.was ∙ read.answer)
-        (whole_is left (ap box_in read.over ∙ whole.over) (count_few c.args.bytes.now (sym c.in_ok-count.ensures))
-         ∙ ap (λ ls. record { over = b; lines = ls }) (sym (take-map line_of count u.lines) ∙ read.table (ap is_ok c.in_ok-read_lines.was))
-         ∙ ap (λ b. record { over = b; lines = (read_lines m (box_of c.whole-over.result) count c.args.bytes.now c.in_ok-count.from.at [] []).lines }) (sym over))
-        read.records)
+    (counted m c.args.bytes.now (sheet_of t) (records_in of w) (omega (arith, all)) (omega (arith, n, none)) over (sym c.in_ok-count.ensures))
+    (sym c.in_ok-read_lines.was ∙ read.answer)
+    (whole_is left (ap box_in read.over ∙ whole.over) (count_few c.args.bytes.now (sym c.in_ok-count.ensures))
+    ∙ ap (λ ls. record { over = b; lines = ls }) (sym (take-map line_of count u.lines) ∙ read.table (ap is_ok c.in_ok-read_lines.was))
+    ∙ ap (λ b. record { over = b; lines = (read_lines m (box_of c.whole-over.result) count c.args.bytes.now c.in_ok-count.from.at [] []).lines }) (sym over))
+    read.records)

@@ -50,7 +50,7 @@ loop-n-preserved g c =
       subst (λ rs. Reading m of b c.args.count c.args.bytes.now c.args.from.at c.args.working.now (set c.loop-n.sheet.lines n c.form-in-loop-n.result) (set c.loop-n.working n c.form.result) rs c.line_at.new.place.at (n + 1))
           (sym (made.records ∙ ap (stored c.loop-n.records n) (sym made.answer)))
           (reading_on m of b c.args.count c.args.bytes.now c.args.from.at c.args.working.now i.0 h (omega (arith, h, most))
-              (stands_ok _ _ _ c.line_at.ensures c.in_ok-line.was) c.form-in-loop-n.result c.form-in-loop-n.ensures c.in_ok-record_in.field-0 made.answer c.form.result c.form.ensures),
+          (stands_ok _ _ _ c.line_at.ensures c.in_ok-line.was) c.form-in-loop-n.result c.form-in-loop-n.ensures c.in_ok-record_in.field-0 made.answer c.form.result c.form.ensures),
       i.1,
       i.2,
     )

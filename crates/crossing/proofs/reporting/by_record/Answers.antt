@@ -28,7 +28,7 @@ returns-then-line-held g c =
     let as_many = held.held in
     let long = length-take-le n rs (omega (arith, few, as_many, all)) in
     cond_above (length rs) 64 (refused Lines 0) _ _ (omega (arith, all))
-        (ap Err c.at-then-line-held.ensures ∙ ap (λ o. after (found NoLine c.args.line o) (λ r. Ok (reported m s.over r))) (sym (slice_get_past (take n rs) c.args.line (omega (arith, long, past, as_many)))))
+    (ap Err c.at-then-line-held.ensures ∙ ap (λ o. after (found NoLine c.args.line o) (λ r. Ok (reported m s.over r))) (sym (slice_get_past (take n rs) c.args.line (omega (arith, long, past, as_many)))))
 
 pub returns : goal.returns
 returns g c =
@@ -43,6 +43,6 @@ returns g c =
     let few = held.few in
     let as_many = held.held in
     cond_above (length rs) 64 (refused Lines 0) _ _ (omega (arith, all))
-        (ap Ok (c.report_of.ensures.value ∙ ap (λ b. reported m b c.meaning-record.result) held.over)
-         ∙ ap (λ o. after (found NoLine c.args.line o) (λ r. Ok (reported m s.over r)))
-             (ap Some c.meaning-record.ensures ∙ sym (held_at g.K.Crossing.mark_of w c.if-working-lt64.false c.args.line _ n (omega (arith, before, as_many)) (omega (arith, few, as_many)))))
+    (ap Ok (c.report_of.ensures.value ∙ ap (λ b. reported m b c.meaning-record.result) held.over)
+    ∙ ap (λ o. after (found NoLine c.args.line o) (λ r. Ok (reported m s.over r)))
+    (ap Some c.meaning-record.ensures ∙ sym (held_at g.K.Crossing.mark_of w c.if-working-lt64.false c.args.line _ n (omega (arith, before, as_many)) (omega (arith, few, as_many)))))

@@ -3,10 +3,10 @@ use borrow.Author.Differences.{ints}
 use Rattle.fixed.proofs.Ratios.{beyond_above, beyond_below, whole_above, whole_below}
 use Rattle.fixed.specs.Rules.{mark_some}
 use Rattle.fixed.proofs.arithmetic.whole.Goals as goal
-use Rattle.fixed.proofs.arithmetic.whole.Goals.{then-n-via-then-n, then-n-via-else-n+then-n-gt-TOP}
+use Rattle.fixed.proofs.arithmetic.whole.Goals.{then-n-via-then-n, then-n-via-else-n+then-n-gt-MOST}
 
 beyond : (c : goal.Joined-then-n) → 1073741823 < nat_abs c.args.n
-beyond c = elim c.then-n.branch [ then-n-via-then-n w ↦ omega (arith, ints) | then-n-via-else-n+then-n-gt-TOP w ↦ omega (arith, ints) ]
+beyond c = elim c.then-n.branch [ then-n-via-then-n w ↦ omega (arith, ints) | then-n-via-else-n+then-n-gt-MOST w ↦ omega (arith, ints) ]
 
 pub returns-then-n-clause-below : goal.returns-then-n-clause-below
 returns-then-n-clause-below c = beyond_below c.args.n (beyond c)
