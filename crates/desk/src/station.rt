@@ -1,6 +1,8 @@
 // A station: a desk of the kind in use.
 ghost use Rattle.std.specs.Prelude.{◌≡◌};
+ghost use Rattle.desk.specs.Answers.{AnswersAt, AnswersIn, Begins};
 ghost use Rattle.desk.specs.Begun.{BeginsAs};
+ghost use Rattle.desk.specs.Dialogue.{DialoguesSound};
 ghost use Rattle.desk.specs.Windows.{Stays, window_of};
 
 use crate::desk::Desk;
@@ -28,15 +30,32 @@ impl Station {
         }
     }
 
-    // Makes a call, and answers in words.
-    pub fn answer(&mut self, heap: Global, call: &Call) -> Result<String, AllocError> {
+    // Begins anew where the call names a kind.
+    fn begin(&mut self, call: &Call)
+        ensures { Begins call.now self.old self.new }
+    {
         if let Call::Kind(kind) = call {
             *self = Station::blank(*kind);
         }
+    }
+
+    // Answers in the kind in use.
+    fn answer_in(&mut self, heap: Global, call: &Call) -> Result<String, AllocError>
+        ensures { AnswersIn call.now self.old self.new result }
+    {
         match self {
             Station::Fixed(desk) => desk.answer(heap, call),
             Station::Sliding(desk) => desk.answer(heap, call),
         }
+    }
+
+    // Makes a call, and answers in words. After any dialogue the sheet tells the truth.
+    pub fn answer(&mut self, heap: Global, call: &Call) -> Result<String, AllocError>
+        ensures answers { AnswersAt call.now self.old self.new result }
+        ensures law { DialoguesSound }
+    {
+        self.begin(call);
+        self.answer_in(heap, call)
     }
 
     // Opens a window's box, reads the formula and reports its last line, in the kind in use.

@@ -1,0 +1,4 @@
+pub mod Lent
+pub mod Sayings
+pub mod Led
+pub mod Dialogues
