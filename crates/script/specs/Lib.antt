@@ -1,1 +1,5 @@
 pub mod Kinds
+pub mod Numbers
+pub mod Readings
+pub mod Slips
+pub mod Words
