@@ -50,7 +50,7 @@ words_of_next s gap x t more u e some g w ends =
     let gaps : chars gap ≡ g.0 = ap chars (sym g.1) ∙ chars-encodes g.0 (gap_scalars g.0 g.2) in
     let gap_utf8 : IsUtf8 gap = (g.0, (gap_scalars g.0 g.2, g.1)) in
     let all : chars s ≡ g.0 ++ (w.0 ++ chars t) =
-        ap chars e ∙ chars-append gap (x ++ t) gap_utf8 ∙ ap (λ l. chars gap ++ l) (chars-append x t u) ∙ ap (λ l. l ++ (chars x ++ chars t)) gaps ∙ ap (λ l. g.0 ++ (l ++ chars t)) xs in
+    ap chars e ∙ chars-append gap (x ++ t) gap_utf8 ∙ ap (λ l. chars gap ++ l) (chars-append x t u) ∙ ap (λ l. l ++ (chars x ++ chars t)) gaps ∙ ap (λ l. g.0 ++ (l ++ chars t)) xs in
     ap (words_behind []) all ∙ gap_passes g.0 (w.0 ++ chars t) g.2 ∙ word_collects [] w.0 (chars t) w.2 ∙ ap (λ v. words_behind v (chars t)) w.1 ∙ word_ends x t more some ends
 
 -- a text of white space has no words

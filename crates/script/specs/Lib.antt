@@ -1,3 +1,5 @@
+pub mod Bytes
+pub mod Counts
 pub mod Kinds
 pub mod Numbers
 pub mod Readings

@@ -1,11 +1,11 @@
 -- Reading a line word by word.
-use Rattle.std.specs.Prelude.{ℕ, cond, List, [], ◌∷◌, ℤ, Ok, Err, Result, bytes_eq}
+use Rattle.std.specs.Prelude.{◌≡◌, ℕ, ◌⊎◌, cond, List, [], ◌∷◌, ℤ, Ok, Err, Result, bytes_eq}
 use Rattle.script.specs.declared.slip.Problem.{Problem}
 use Rattle.script.specs.declared.slip.Problem.TheVariants.{Expected, Missing, Surplus}
 use Rattle.script.specs.declared.slip.Slip.{Slip}
 use Rattle.script.specs.declared.words.Words.{Words}
 use Rattle.script.specs.Numbers.{index_of, number_of}
-use Rattle.script.specs.Slips.{Fault, text, told_by}
+use Rattle.script.specs.Slips.{Fault, no_memory, text, told_by}
 use Rattle.script.specs.Words.{Place, place}
 
 -- what was read, or the fault, and how far the line is read then
@@ -19,6 +19,10 @@ reading_by view result line = record { answer = told_by view result; at = place 
 
 abbrev pub reading : {T : Type 0} → Result T Slip → Words → Reading T
 reading = reading_by (λ x. x)
+
+-- the reading that is meant, unless no memory was found
+abbrev pub ReadsOrNoMemory : {T : Type 0} → Reading T → Reading T → Type 0
+ReadsOrNoMemory r meant = (r ≡ meant) ⊎ (r.answer ≡ Err no_memory)
 
 abbrev pub read : {T : Type 0} → T → Place → Reading T
 read x at = record { answer = Ok x; at = at }

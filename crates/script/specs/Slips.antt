@@ -1,8 +1,8 @@
 -- Slips: what is wrong with which word.
-use Rattle.std.specs.Prelude.{ℕ, List, Ok, Err, Result}
+use Rattle.std.specs.Prelude.{◌≡◌, ℕ, ◌⊎◌, List, codes, Ok, Err, Result}
 use Rattle.std.specs.Borrow.{Bor}
 use Rattle.script.specs.declared.slip.Problem.{Problem}
-use Rattle.script.specs.declared.slip.Problem.TheVariants.{Expected}
+use Rattle.script.specs.declared.slip.Problem.TheVariants.{Expected, NoMemory}
 use Rattle.script.specs.declared.slip.Slip.{Slip}
 
 -- a text, wherever it lies
@@ -34,3 +34,11 @@ told = told_by (λ x. x)
 abbrev pub after : {T U : Type 0} → Result T Fault → (T → Result U Fault) → Result U Fault
 after (Ok x) next = next x
 after (Err fault) next = Err fault
+
+-- no memory was found
+abbrev pub no_memory : Fault
+no_memory = record { word = codes "the line"; problem = NoMemory }
+
+-- the answer that is meant, unless no memory was found
+abbrev pub OrNoMemory : {T : Type 0} → Result T Fault → Result T Fault → Type 0
+OrNoMemory answer meant = (answer ≡ meant) ⊎ (answer ≡ Err no_memory)

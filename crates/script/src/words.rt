@@ -1,7 +1,6 @@
 // The words of a line, one after the other.
 ghost use Rattle.std.specs.Prelude.{◌≡◌, codes, length};
 ghost use Rattle.std.specs.Iterator.{at_most};
-ghost use Rattle.std.specs.Str.Iter.{split_whitespace_rest};
 ghost use Rattle.script.specs.Numbers as numbers;
 ghost use Rattle.script.specs.Readings.{end_at, index_at, number_at, reading, reading_by, wanted_at, word_at};
 ghost use Rattle.script.specs.Slips.{told};
@@ -22,7 +21,7 @@ impl<'a> Iterator for Words<'a> {
 
     ghost next_gives = { Takes };
 
-    ghost remaining = { λ s. at_most (length (split_whitespace_rest s.rest)) };
+    ghost remaining = { λ line. at_most (length (place line).words) };
 
     fn next(&mut self) -> Option<&'a str> {
         let word = self.rest.next()?;

@@ -1,7 +1,6 @@
-use Rattle.std.proofs.Common.{rules, length, ◌≡◌, ℕ, List, [], ◌∷◌, ◌++◌, refl, sym, ap, subst, Bor, MutBor}
+use Rattle.std.proofs.Common.{◌≡◌, ℕ, List, ◌∷◌, length, refl, ap, arith}
 use Rattle.std.specs.Str.{IsUtf8}
-use Rattle.std.specs.Str.Iter.{split_whitespace_rest}
-use Rattle.script.specs.Words.{Takes, place}
+use Rattle.script.specs.Words.{place}
 use Rattle.script.proofs.Splits.{words_of_next, words_of_none}
 use Rattle.script.proofs.words.WordsIterator.next.Goals as goal
 
@@ -15,3 +14,8 @@ returns-clause-steps c =
     let word = c.in_ok-word.ensures.steps in
     let text : IsUtf8 c.in_ok-word.word.now = (rw c.in_ok-word.was at c.next.type_inv).1.1.1.1.0.1 in
     (words_of_next _ word.0 _ _ word.5.0 text word.1 word.2 word.3 word.4 word.5.1, refl)
+
+pub returns-clause-goes : goal.returns-clause-goes
+returns-clause-goes c =
+    let e = (returns-clause-steps c).0 in
+    record { on = λ _. (tt, tt, omega (arith, ap length e)); keeps = tt; rests = λ _. tt }
