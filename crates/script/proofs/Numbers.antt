@@ -1,12 +1,13 @@
 -- What `parse` gives is the number of the word.
-use Rattle.std.proofs.Common.{◌≡◌, ℕ, ◌<◌, Bool, true, false, cond, ◌&&◌, List, length, ℤ, pos, negsuc, nat_lt, Ok, Err, Result, refl, sym, ap, ◌∙◌, FitsSigned, w64, to_z, of_z, nat_abs, arith}
+use Rattle.std.proofs.Common.{◌≡◌, ℕ, ◌<◌, Bool, true, false, cond, ◌&&◌, List, ℤ, pos, negsuc, nat_lt, nat_le, ◌≤◌, Ok, Err, Result, refl, ap, ◌∙◌, FitsSigned, w64, to_z, of_z, nat_abs, arith}
 use Rattle.std.proofs.lemmas.Bool.Decides.{nat_tests}
 use Rattle.std.proofs.lemmas.Str.Parse.{IsNumeralModel, numerals_by_value, tells_all_ascii_digits}
 use Rattle.std.specs.Str.{all_ascii_digits}
 use Rattle.std.specs.Str.Parse.{IsNumeral, ParsesSigned, digits_value, signed_digits_value, without_leading_sign}
-use Rattle.script.specs.declared.slip.Problem.TheVariants.{NoIndex, NoNumber}
+use Rattle.script.specs.declared.slip.Problem.TheVariants.{Beyond, NoIndex, NoNumber}
+use Rattle.script.specs.Calls.{bounded}
 use Rattle.script.specs.Numbers.{fits_64_bits, index_of, is_numeral, not_below_0, number_of}
-use Rattle.script.specs.Slips.{Fault, fault_of, told}
+use Rattle.script.specs.Slips.{Fault, told}
 use Rattle.script.specs.declared.slip.Slip.{Slip}
 use Rattle.script.proofs.Steps.{fault_is}
 use Rattle.std.specs.Int.{FitsUnsignedBits}
@@ -89,3 +90,26 @@ index_told word n tried slip r k h e w p =
     let f = number_fits word n k in
     let same = to_z-of_z w64 n f in
     rw (← k) (tried_told word n tried slip r (rw same at h) e w p f)
+
+-- a number within a limit, and none
+bound_in : (word : List ℕ) (n : ℤ) (limit x : ℕ) → FitsUnsignedBits 64 n → x ≡ nat_abs n → x ≤ limit → Ok x ≡ bounded limit word n
+bound_in word (pos n) limit x f e h = let t : nat_le n limit ≡ true = grind (arith, nat_tests) in rw (t, e) refl
+bound_in word (negsuc n) limit x f e h = absurd f
+
+bound_out : (word : List ℕ) (n : ℤ) (limit : ℕ) → (FitsUnsignedBits 64 n → limit < nat_abs n) → FitsSigned w64 n → Err (record { word = word; problem = Beyond }) ≡ bounded limit word n
+bound_out word (pos n) limit h f =
+    let k = f.sfits in
+    let b : limit < n = h (omega arith) in
+    let t : nat_le n limit ≡ false = grind (arith, nat_tests) in rw t refl
+bound_out word (negsuc n) limit h f = refl
+
+pub within_told : (word : List ℕ) (n : ℤ) (limit x : ℕ) → Ok n ≡ number_of word → FitsUnsignedBits 64 (to_z w64 (of_z w64 n)) × (x ≡ nat_abs (to_z w64 (of_z w64 n))) → x ≤ limit → Ok x ≡ bounded limit word n
+within_told word n limit x k h le =
+    let g = rw (to_z-of_z w64 n (number_fits word n k)) at h in
+    bound_in word n limit x g.0 g.1 le
+
+pub beyond_told : (word : List ℕ) (n : ℤ) (limit : ℕ) (slip : Slip) → Ok n ≡ number_of word → (FitsUnsignedBits 64 (to_z w64 (of_z w64 n)) → limit < nat_abs (to_z w64 (of_z w64 n))) → slip.word.now ≡ word → slip.problem ≡ Beyond → told (Err slip) ≡ bounded limit word n
+beyond_told word n limit slip k h w p =
+    let f = number_fits word n k in
+    let g = rw (to_z-of_z w64 n f) at h in
+    ap Err (fault_is slip _ _ w p) ∙ bound_out word n limit g f

@@ -1,6 +1,6 @@
 -- What `split_whitespace` gives are the words.
-use Rattle.std.proofs.Common.{◌≡◌, ℕ, ◌+◌, ◌<◌, Bool, true, false, cond, not, List, [], ◌∷◌, ◌++◌, length, refl, sym, ap, ◌∙◌, subst, append_assoc, append-nil, arith}
-use Rattle.std.specs.Char.{is_whitespace, is_not_whitespace, encode_utf8, IsScalar}
+use Rattle.std.proofs.Common.{◌≡◌, ℕ, ◌<◌, Bool, true, false, not, List, [], ◌∷◌, ◌++◌, length, refl, sym, ap, ◌∙◌, append_assoc, append-nil, arith}
+use Rattle.std.specs.Char.{is_whitespace, is_not_whitespace, encode_utf8}
 use lib.Utf8.{low_scalar}
 use Rattle.std.specs.Str.{chars, IsUtf8, all_scalars, encode_utf8_all, NonePass, NoCharPasses, EmptyOrStartsWithPassing}
 use Rattle.std.proofs.lemmas.Str.{chars-append, chars-encodes, chars-nil, encodes_same, IsUtf8-encode}

@@ -1,4 +1,4 @@
-use Rattle.std.proofs.Common.{◌≡◌, ◌∙◌, ◌<◌, Ok, Some, Err, Option, Result, ℕ, sym, subst, lit<}
+use Rattle.std.proofs.Common.{◌∙◌, sym, lit<}
 use Rattle.std.specs.Slice.Iter.{chunks_rest}
 use Rattle.script.proofs.Pairs.{pair_more, some_from}
 use Rattle.script.proofs.hex.append_word.Goals as goal

@@ -1,4 +1,4 @@
-use Rattle.std.proofs.Common.{◌≡◌, ℕ, List, ◌∷◌, length, refl, ap, arith}
+use Rattle.std.proofs.Common.{length, refl, ap, arith}
 use Rattle.std.specs.Str.{IsUtf8}
 use Rattle.script.specs.Words.{place}
 use Rattle.script.proofs.Splits.{words_of_next, words_of_none}
