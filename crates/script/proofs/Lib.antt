@@ -1,4 +1,5 @@
 pub mod Ends
+pub mod Examples
 pub mod Memory
 pub mod Naming
 pub mod Numbers

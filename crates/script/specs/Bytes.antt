@@ -46,7 +46,7 @@ byte_into (Some b) word bytes next = next (bytes ++ b ∷ [])
 -- the bytes of a word's digits, two by two, are appended
 abbrev pub pairs_into : List ℕ → List ℕ → List ℕ → Appending
 pairs_into word bytes [] = record { answer = Ok tt; bytes = bytes }
-pairs_into word bytes (odd ∷ []) = byte_into None word bytes (λ more. record { answer = Ok tt; bytes = more })
+pairs_into word bytes (odd ∷ []) = record { answer = Err (record { word = word; problem = NoByte }); bytes = bytes }
 pairs_into word bytes (high ∷ low ∷ digits) = byte_into (byte_of (high ∷ low ∷ [])) word bytes (λ more. pairs_into word more digits)
 
 abbrev pub on_from : Result (Unit {0}) Fault → List ℕ → (List ℕ → Appending) → Appending

@@ -70,7 +70,7 @@ asked (Record line) = record_call line
 asked (Working line) = working_call line
 asked (Spare line) = spare_call line
 
--- what is asked for behind the word of a call
+-- what is asked for behind the word of a call; the memory has 128 working and 128 spare lines, 0 to 127
 unfoldable pub asked_at : List ℕ → Place → Reading Asked
 asked_at word at =
     cond (bytes_eq word (codes "kind")) (then (kind_at at) (λ k. read (kind_call k)))

@@ -46,15 +46,15 @@ first_of (word ∷ words) last = read word (record { words = words; last = word 
 unfoldable pub word_at : Place → Reading (List ℕ)
 word_at at = first_of at.words at.last
 
--- the word that is wanted next, and no other
+-- the word that is wanted comes next, and no other
 unfoldable pub wanted_at : List ℕ → Place → Reading (Unit {0})
-wanted_at wanted at = then (word_at at) (λ word then_at. cond (bytes_eq word wanted) (read tt then_at) (slipped word (Expected (text wanted)) then_at))
+wanted_at wanted at = then (word_at at) (λ word next. cond (bytes_eq word wanted) (read tt next) (slipped word (Expected (text wanted)) next))
 
 unfoldable pub number_at : Place → Reading ℤ
-number_at at = then (word_at at) (λ word then_at. record { answer = number_of word; at = then_at })
+number_at at = then (word_at at) (λ word next. record { answer = number_of word; at = next })
 
 unfoldable pub index_at : Place → Reading ℕ
-index_at at = then (word_at at) (λ word then_at. record { answer = index_of word; at = then_at })
+index_at at = then (word_at at) (λ word next. record { answer = index_of word; at = next })
 
 -- no word is left
 abbrev pub none_of : List (List ℕ) → List ℕ → Reading (Unit {0})
