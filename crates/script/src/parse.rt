@@ -1,6 +1,5 @@
 // Lines of a script as calls.
 ghost use Rattle.std.specs.Prelude.{◌≡◌, option_map};
-ghost use Rattle.script.specs.Calls as meant;
 ghost use Rattle.script.specs.Calls.{asked, asked_at, call_at, call_in, kind_at, room_at, within_at};
 ghost use Rattle.script.specs.Lines.{line_at};
 ghost use Rattle.script.specs.Openings as openings;
