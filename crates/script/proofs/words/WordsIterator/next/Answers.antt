@@ -9,6 +9,7 @@ returns-in_err-word-clause-steps c =
     let white = c.in_err-word.ensures.steps in
     rw (c.from_residual.ensures) (words_of_none _ white.1, ap (λ r. place (record { rest = r; last = c.args.self.now.last })) white.0)
 
+-- The invariant of the result's type says that the word is text in UTF-8.
 pub returns-clause-steps : goal.returns-clause-steps
 returns-clause-steps c =
     let word = c.in_ok-word.ensures.steps in
