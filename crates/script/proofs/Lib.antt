@@ -1,0 +1,9 @@
+pub mod Ends
+pub mod Examples
+pub mod Memory
+pub mod Naming
+pub mod Numbers
+pub mod Pairs
+pub mod Passing
+pub mod Splits
+pub mod Steps

@@ -1,1 +1,10 @@
+pub mod Bytes
+pub mod Calls
+pub mod Counts
 pub mod Kinds
+pub mod Lines
+pub mod Numbers
+pub mod Openings
+pub mod Readings
+pub mod Slips
+pub mod Words

@@ -1,32 +1,53 @@
 // Bytes in hexadecimal.
+ghost use Rattle.std.specs.Prelude.{◌≡◌, []};
+ghost use Rattle.script.specs.Bytes.{AppendsOrNoMemory, bytes_at, pairs_into, words_into};
+ghost use Rattle.script.specs.Bytes as meant;
+ghost use Rattle.script.specs.Readings.{ReadsOrNoMemory, reading_by};
+ghost use Rattle.script.specs.Words.{place, words_of};
+
 use crate::slip::{Problem, Slip};
 use crate::words::Words;
 use std::alloc::Global;
-use std::str;
 
 // The byte of two digits.
-fn byte_of(digits: &[u8]) -> Option<u8> {
-    if digits.len() != 2 || !digits.iter().all(|digit| digit.is_ascii_hexdigit()) {
+fn byte_of(digits: &[u8]) -> Option<u8>
+    ensures { result ≡ meant.byte_of digits.now }
+{
+    let [high, low] = *digits else {
         return None;
-    }
-    u8::from_str_radix(str::from_utf8(digits).ok()?, 16).ok()
+    };
+    let high = char::from(high).to_digit(16)?;
+    let low = char::from(low).to_digit(16)?;
+    Some((high * 16 + low) as u8)
 }
 
 // The bytes of all words that are left, two digits each.
-pub fn bytes_of<'a>(heap: Global, words: &mut Words<'a>) -> Result<Vec<u8>, Slip<'a>> {
+pub fn bytes_of<'a>(heap: Global, words: &mut Words<'a>) -> Result<Vec<u8>, Slip<'a>>
+    ensures { ReadsOrNoMemory (reading_by (λ bytes. bytes.items) result words.new) (bytes_at [] (place words.old)) }
+{
     let mut bytes = Vec::new(heap);
-    for word in words {
+    while let Some(word) = words.next() {
         bytes.push(byte_of(word.as_bytes()).ok_or(Problem::NoByte.of(word))?)?;
     }
     Ok(bytes)
 }
 
+// Appends the bytes of a word, two digits each.
+fn append_word<'a>(bytes: &mut Vec<u8>, word: &'a str) -> Result<(), Slip<'a>>
+    ensures { AppendsOrNoMemory result bytes.new (pairs_into word.now bytes.old.items word.now) }
+{
+    for digits in word.as_bytes().chunks(2) {
+        bytes.push(byte_of(digits).ok_or(Problem::NoByte.of(word))?)?;
+    }
+    Ok(())
+}
+
 // Appends the bytes of a line; a word may have the digits of several.
-pub fn append_bytes<'a>(bytes: &mut Vec<u8>, text: &'a str) -> Result<(), Slip<'a>> {
-    for word in text.split_whitespace() {
-        for digits in word.as_bytes().chunks(2) {
-            bytes.push(byte_of(digits).ok_or(Problem::NoByte.of(word))?)?;
-        }
+pub fn append_bytes<'a>(bytes: &mut Vec<u8>, text: &'a str) -> Result<(), Slip<'a>>
+    ensures { AppendsOrNoMemory result bytes.new (words_into (words_of text.now) bytes.old.items) }
+{
+    for word in Words::new(text) {
+        append_word(bytes, word)?;
     }
     Ok(())
 }

@@ -1,5 +1,6 @@
 // What is wrong with a line of a script.
 ghost use Rattle.std.specs.Prelude.{◌≡◌};
+ghost use Rattle.script.specs.Slips.{fault_of, no_memory};
 
 use std::alloc::AllocFailed;
 use std::fmt;
@@ -66,6 +67,8 @@ impl fmt::Display for Slip<'_> {
 }
 
 impl<T: Drop> From<AllocFailed<T>> for Slip<'_> {
+    ghost from_gives = { λ _ slip. fault_of slip ≡ no_memory };
+
     fn from(_refused: AllocFailed<T>) -> Self {
         Problem::NoMemory.of("the line")
     }
