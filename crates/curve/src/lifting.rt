@@ -77,7 +77,7 @@ fn scaled<K: NumberKind>(base: Base<K>, g: K, e: K, s: &Slopes<K>) -> Record<K>
     base.sloped(Slopes { a, b, c })
 }
 
-// The rule without what [0] adds, and without products by [1]: slopes [1], [1], [0] become G, E and K, their ends in order.
+// The rule without what [0] adds.
 #[inline(always)]
 fn lift_slopes<K: NumberKind>(base: Base<K>, f: &Shape<K>, p: &Record<K>) -> Record<K>
     ensures { result ≡ rec base.u base.u0 (curves.lift_slopes K.NumberKind.model f.now p.now.slopes) }
@@ -93,13 +93,6 @@ fn lift_slopes<K: NumberKind>(base: Base<K>, f: &Shape<K>, p: &Record<K>) -> Rec
         && let Some(e) = f.e.sole()
     {
         return scaled(base, g, e, s);
-    }
-    if s.is_unit() {
-        return base.sloped(Slopes {
-            a: f.g.sorted(),
-            b: f.e.sorted(),
-            c: f.k.sorted(),
-        });
     }
     bent(base, f, s)
 }

@@ -48,8 +48,8 @@ impl<K: NumberKind> Slopes<K> {
         self.a.is_zero() && self.b.is_zero() && self.c.is_zero()
     }
 
-    // Whether they are [1], [1], [0], as of the swept channel, and of its sum with what stands still. Rules for products and
-    // curves of such lines that leave out the products by [1] are faster.
+    // Whether they are [1], [1], [0], as of the swept channel, and of its sum with what stands still. A rule for products of such lines
+    // that leaves out the products by [1] is faster.
     #[inline(always)]
     pub fn is_unit(&self) -> bool
         ensures { result ≡ rules.is_unit K.NumberKind.model self.now }

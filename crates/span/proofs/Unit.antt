@@ -60,8 +60,5 @@ module _ {K : Type 0} (m : Model K) (rules : Rules m) where
   in_order : (s : Span K) → Ordered m s → sorted m s ≡ s
   in_order s h = rw (le_F_true _ _ h) refl
 
-  pub sorted_twice : (s : Span K) → sorted m (sorted m s) ≡ sorted m s
-  sorted_twice s = in_order (sorted m s) (≤F_trans (lesser_left m s.lower s.upper) (greater_left m s.lower s.upper))
-
   pub one_one : product m (one_span m) (one_span m) ≡ Some (one_span m)
   one_one = product_one (one_span m) ∙ ap Some (in_order (one_span m) (≤F_refl _))

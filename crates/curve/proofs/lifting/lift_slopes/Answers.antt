@@ -1,5 +1,4 @@
 use Rattle.std.proofs.Common.{ap, sym, ◌∙◌}
-use Rattle.curve.proofs.Ones.{lift_unit}
 use Rattle.curve.proofs.Straight.{bent_is, scaled_is}
 use Rattle.curve.proofs.Zeros.{lift_still}
 use Rattle.curve.proofs.lifting.lift_slopes.Goals as goal
@@ -20,8 +19,3 @@ pub returns-2 : goal.returns-2
 returns-2 g c = c.bent.ensures ∙ ap (rec c.args.base.u c.args.base.u0)
     (bent_is g.K.NumberKind.model g.met.K.NumberKind.rules c.args.f.now _
     ∙ ap (lift_slopes g.K.NumberKind.model c.args.f.now) (sym c.in-Some.is))
-
-pub returns-then-is_unit : goal.returns-then-is_unit
-returns-then-is_unit g c = c.sloped-then-is_unit.ensures ∙ ap (rec c.args.base.u c.args.base.u0)
-    (lift_unit g.K.NumberKind.model g.met.K.NumberKind.rules c.args.f.now _ _ c.in-Some.is (sym c.is_unit.ensures ∙ c.if-is_unit.true)
-    _ _ _ c.sorted.ensures c.sorted-then-is_unit.ensures c.sorted-then-is_unit-2.ensures)
