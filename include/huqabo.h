@@ -4,7 +4,7 @@
  * A sheet holds a box (the lowest and highest reading of 1 to 8 channels) and at most 64 lines of a formula; a record says what is known
  * of a line over the box. Both are plain data of the sizes below, to be copied and kept as you like, and both are yours: the library
  * allocates nothing, keeps nothing between two calls, starts no thread and calls nothing but memcpy, memmove and memset. A call takes at most
- * about 31 kilobytes of stack (measured, and not proved). Calls may run at the same time if no memory that one of them may write is
+ * about 22 kilobytes of stack (measured, and not proved). Calls may run at the same time if no memory that one of them may write is
  * another's too.
  *
  * A count is a whole number of 1/65,536. There are two kinds of numbers, and each call comes once for each. Marks of the fixed kind are
