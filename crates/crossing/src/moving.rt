@@ -1,7 +1,8 @@
 // Moving a channel in memory: the records of the held lines are made anew, each written where it belongs.
-ghost use Rattle.std.specs.Prelude.{◌≡◌, ◌≤◌, ◌++◌, [], Ok, drop, is_ok, length, take, true};
+ghost use Rattle.std.specs.Prelude.{◌≡◌, ◌≤◌, ◌++◌, [], Ok, drop, is_ok, length, map, take, true};
 ghost use Rattle.boxes.specs.Boxes.{Proper};
 ghost use Rattle.boxes.specs.Stored.{box_of, boxed};
+ghost use Rattle.crossing.specs.Lines.{line_of};
 ghost use Rattle.crossing.specs.Memory.{Beyond, records_in};
 ghost use Rattle.crossing.specs.Found.{Whole};
 ghost use Rattle.crossing.specs.Sheets.{sheet_of};
@@ -13,29 +14,28 @@ use crate::boxed::stored;
 use crate::making::record_in;
 use crate::marks::Crossing;
 use crate::means::Means;
-use crate::memory::{CRecord, CSheet};
+use crate::memory::{CLine, CRecord, CSheet};
 use boxes::ChannelBox;
 use fault::{Cause, Fault};
-use line::Line;
 use runs::Moving;
 use slope::Record;
 
 // Makes the records of lines over a box, and writes each.
 fn remake<K: Crossing>(
     over: &ChannelBox,
-    lines: &[Line],
+    lines: &[CLine],
     records: &mut [Record<K>],
     memory: &mut [CRecord],
 ) -> Result<(), Fault>
     requires few { length lines.now ≤ 64 }
     requires room { length records.old ≡ 64 }
     requires lent { 64 ≤ length memory.old }
-    ensures answer { result ≡ (remade K.NumberKind.model (box_of over.now) lines.now [] []).answer }
-    ensures memory { records_in K.Crossing.mark_of memory.new ≡ overlaid (remade K.NumberKind.model (box_of over.now) lines.now [] []).records (records_in K.Crossing.mark_of memory.old) }
+    ensures answer { result ≡ (remade K.NumberKind.model (box_of over.now) (map line_of lines.now) [] []).answer }
+    ensures memory { records_in K.Crossing.mark_of memory.new ≡ overlaid (remade K.NumberKind.model (box_of over.now) (map line_of lines.now) [] []).records (records_in K.Crossing.mark_of memory.old) }
     ensures beyond { Beyond memory.old memory.new }
 {
     for n in 0..lines.len() {
-        memory[n] = CRecord::form(record_in(over, records, n, lines[n])?);
+        memory[n] = CRecord::form(record_in(over, records, n, lines[n].meaning())?);
     }
     Ok(())
 }
@@ -67,8 +67,8 @@ fn move_to<K: Crossing>(
     ensures working { Beyond working.old working.new }
     ensures spare { Beyond spare.old spare.new }
 {
-    let (lines, held) = sheet.table();
-    remake(&over, &lines[..held], records, spare)?;
+    let held = sheet.held;
+    remake(&over, &sheet.lines[..held], records, spare)?;
     copy(working, spare, held);
     sheet.over = stored(&over);
     Ok(())

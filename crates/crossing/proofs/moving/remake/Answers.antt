@@ -1,6 +1,8 @@
-use Rattle.std.proofs.Common.{◌+◌, get_or, set, sym, refl, ap, ◌∙◌, subst, arith}
+use Rattle.std.proofs.Common.{◌+◌, map, set, sym, ap, ◌∙◌, subst, arith}
+use Rattle.std.proofs.lemmas.List.{get_or-map, length-map}
 use Rattle.boxes.specs.Stored.{box_of}
 use Rattle.crossing.proofs.Remade.{Making, making_on}
+use Rattle.crossing.specs.Lines.{line_of}
 use Rattle.crossing.specs.Memory.{records_in}
 use Rattle.line.specs.declared.line.Line.TheVariants.{Channel}
 use Rattle.rule.specs.Placed.{stored}
@@ -15,8 +17,11 @@ returns-in_err-record_in-clause-answer g c =
     let ls = c.args.lines.now in
     let n = c.loop-n.n in
     let i = c.loop-n.invariant in
-    let e = bad_record m b ls (records_in g.K.Crossing.mark_of c.args.memory.now) i.going (Channel 0) c.loop-n-test.true refl
-    (c.in_err-record_in.ensures.answer ∙ ap (λ w. rule m b w (get_or ls n (Channel 0))) i.both.same) c.from_residual.result c.from_residual.ensures.1 in
+    let h = c.loop-n-test.true in
+    let as_many = length-map ls line_of in
+    let e = bad_record m b (map line_of ls) (records_in g.K.Crossing.mark_of c.args.memory.now) i.going (Channel 0) (omega (arith, h, as_many))
+    (c.meaning.ensures ∙ sym (get_or-map line_of ls n _ (Channel 0) h))
+    (c.in_err-record_in.ensures.answer ∙ ap (λ w. rule m b w c.meaning.result) i.both.same) c.from_residual.result c.from_residual.ensures.1 in
     e.answer_is
 
 pub returns-in_err-record_in-clause-memory : goal.returns-in_err-record_in-clause-memory
@@ -26,8 +31,11 @@ returns-in_err-record_in-clause-memory g c =
     let ls = c.args.lines.now in
     let n = c.loop-n.n in
     let i = c.loop-n.invariant in
-    let e = bad_record m b ls (records_in g.K.Crossing.mark_of c.args.memory.now) i.going (Channel 0) c.loop-n-test.true refl
-    (c.in_err-record_in.ensures.answer ∙ ap (λ w. rule m b w (get_or ls n (Channel 0))) i.both.same) c.from_residual.result c.from_residual.ensures.1 in
+    let h = c.loop-n-test.true in
+    let as_many = length-map ls line_of in
+    let e = bad_record m b (map line_of ls) (records_in g.K.Crossing.mark_of c.args.memory.now) i.going (Channel 0) (omega (arith, h, as_many))
+    (c.meaning.ensures ∙ sym (get_or-map line_of ls n _ (Channel 0) h))
+    (c.in_err-record_in.ensures.answer ∙ ap (λ w. rule m b w c.meaning.result) i.both.same) c.from_residual.result c.from_residual.ensures.1 in
     e.records_are
 
 pub loop-n-preserved : goal.loop-n-preserved
@@ -38,9 +46,10 @@ loop-n-preserved g c =
     let ls = c.args.lines.now in
     let n = c.loop-n.n in
     let rs = c.loop-n.records in
-    let r = c.in_ok-record_in.field-0 in
     let made = c.in_ok-record_in.ensures in
     let h = c.loop-n-test.true in
     let few = c.requires.few in
-    subst (λ rs. Making m of b ls c.args.memory.now (set c.loop-n.memory n c.form.result) rs (n + 1)) (sym (made.records ∙ ap (stored rs n) (sym made.answer)))
-    (making_on m of b ls c.args.memory.now c.loop-n.invariant (Channel 0) h (omega (arith, h, few)) refl r made.answer c.form.result c.form.ensures)
+    let as_many = length-map ls line_of in
+    subst (λ rs. Making m of b (map line_of ls) c.args.memory.now (set c.loop-n.memory n c.form.result) rs (n + 1)) (sym (made.records ∙ ap (stored rs n) (sym made.answer)))
+    (making_on m of b (map line_of ls) c.args.memory.now c.loop-n.invariant (Channel 0) (omega (arith, h, as_many)) (omega (arith, h, few))
+    (c.meaning.ensures ∙ sym (get_or-map line_of ls n _ (Channel 0) h)) c.in_ok-record_in.field-0 made.answer c.form.result c.form.ensures)
