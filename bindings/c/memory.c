@@ -144,7 +144,7 @@ static void records(void)
 /* Lines that no call has put there. */
 static void spoiled_lines(void)
 {
-    static uint8_t bytes[2048];
+    static uint8_t bytes[2048], branch[2048];
     CHECK(accepted(open_box()) && accepted(read_bytes(64)));
     sheet.lines[3] = (huqabo_line){.operation = HUQABO_SUM, .a = 0, .b = 3};
     CHECK(refused(move_range(64, 64), 8, 3));
@@ -154,7 +154,10 @@ static void spoiled_lines(void)
     CHECK(refused(move_range(64, 64), 3, 3));
     sheet.lines[3] = (huqabo_line){.operation = 4000000000};
     CHECK(accepted(move_range(64, 64)));
-    CHECK(sheet.lines[3].operation == HUQABO_BRANCH);
+    /* it is written as the branch that it means */
+    const size_t length = kind->write(&sheet, bytes, sizeof bytes).number;
+    sheet.lines[3].operation = HUQABO_BRANCH;
+    CHECK(kind->write(&sheet, branch, sizeof branch).number == length && memcmp(bytes, branch, length) == 0);
     sheet.held = 64;
     for (size_t i = 0; i < 64; i++) {
         sheet.lines[i] = (huqabo_line){.operation = HUQABO_BRANCH, .a = SIZE_MAX, .b = SIZE_MAX, .c = SIZE_MAX};
