@@ -1,4 +1,4 @@
-// Sheets in memory without their lines: what a call needs of a sheet that it does not take apart.
+// What a sheet in memory means, part by part.
 ghost use Rattle.std.specs.Prelude.{◌≡◌, ◌≤◌, Ok, length, map, take};
 ghost use Rattle.boxes.specs.Stored.{box_of};
 ghost use Rattle.crossing.specs.Lines.{line_of};
