@@ -1,6 +1,6 @@
 -- Sheets in memory that are sheets: what they mean, and what it is to hold a line less or more.
-use Rattle.std.proofs.Common.{◌≡◌, ℕ, ◌-◌, ◌≤◌, nat_lt, Bool, cond, ◌==◌, [], length, map, take, true, false, Ok, Err, Result, refl, sym, ap, ◌∙◌, arith, length-take-le}
-use Rattle.std.proofs.lemmas.Bool.{ltb-false, ltb-true, ne_eqb}
+use Rattle.std.proofs.Common.{◌≡◌, ◌-◌, ◌≤◌, nat_lt, Bool, cond, ◌==◌, [], length, map, take, true, false, Ok, Err, Result, refl, sym, ap, ◌∙◌, arith, length-take-le}
+use Rattle.std.proofs.lemmas.Bool.{cond_above, ltb-false, ne_eqb}
 use Rattle.std.proofs.lemmas.List.{length-map, take-map, take-take}
 use Rattle.boxes.specs.Boxes.{Box}
 use Rattle.crossing.specs.Lines.{line_of}
@@ -12,16 +12,9 @@ use Rattle.fault.specs.declared.fault.Fault.{Fault}
 use Rattle.sheet.specs.Calls.{Struck}
 use Rattle.sheet.specs.Contents.{blank}
 
-few_held : {X : Type 0} (n : ℕ) (x y : X) → n ≤ 64 → cond (nat_lt 64 n) x y ≡ y
-few_held n x y few = go (nat_lt 64 n) refl
-  where
-    go : (t : Bool) → nat_lt 64 n ≡ t → cond t x y ≡ y
-    go true e = let more = ltb-true 64 n e in absurd (omega (arith, few, more))
-    go false e = refl
-
 module _ (s : CSheet) {b : Box} (over : box_in s.over ≡ Ok b) (few : s.held ≤ 64) where
   pub whole_is : sheet_of s ≡ record { over = b; lines = lines_in s }
-  whole_is = ap (sheet_over s) over ∙ few_held s.held blank (record { over = b; lines = lines_in s }) few
+  whole_is = ap (sheet_over s) over ∙ sym (cond_above 64 s.held blank (record { over = b; lines = lines_in s }) _ few refl)
 
   pub held_is : length (sheet_of s).lines ≡ s.held
   held_is = let w = s.whole in ap (λ c. length c.lines) whole_is ∙ length-map (take s.held s.lines) line_of ∙ length-take-le s.held s.lines (omega (arith, few, w))

@@ -6,6 +6,7 @@ use Rattle.std.proofs.lemmas.List.{get_or-map, get_or-take, length-map, length-t
 use Rattle.std.proofs.lemmas.Option.{slice_get-get_or}
 use Rattle.std.specs.List.{slice_get}
 use Rattle.boxes.specs.Moving.{moved}
+use Rattle.crossing.proofs.Named.{in_front}
 use Rattle.crossing.specs.Memory.{records_in}
 use Rattle.crossing.specs.Records.{record_of}
 use Rattle.crossing.specs.declared.memory.CMark.{CMark}
@@ -29,9 +30,7 @@ module _ {K : Type 0} (of : CMark → K) (w : List CRecord) where
         ∙ ap Some (get_or-map (record_of of) (take 64 w) i d (record_of of d) (let k = length-take-le 64 w enough in omega (arith, h, k)) ∙ ap (record_of of) (get_or-take 64 w i d h))
 
     pub held_at : (n : ℕ) → i < n → n ≤ 64 → slice_get (take n (records_in of w)) i ≡ Some (record_of of (get_or w i d))
-    held_at n h few = let k = all_lent enough in let l = length-take-le n (records_in of w) (omega (arith, few, k)) in
-        slice_get-get_or (take n (records_in of w)) i (record_of of d) (omega (arith, h, l))
-        ∙ ap Some (get_or-take n (records_in of w) i (record_of of d) h ∙ get_or-map (record_of of) (take 64 w) i d (record_of of d) (let k = length-take-le 64 w enough in omega (arith, h, few, k)) ∙ ap (record_of of) (get_or-take 64 w i d (omega (arith, h, few))))
+    held_at n h few = in_front (records_in of w) n i h ∙ lent_at (omega (arith, h, few))
 
 -- whether enough are lent
 pub as_few : {K : Type 0} (of : CMark → K) (w : List CRecord) → nat_lt (length w) 64 ≡ nat_lt (length (records_in of w)) 64

@@ -78,7 +78,7 @@ module _ {K : Type 0} (m : Model K) (b : Box) (v w : List (Record K)) (long : le
 
 -- what is among the first n of two lists
 module _ {R : Type 0} where
-  in_front : (v : List R) (n l : ℕ) → l < n → slice_get (take n v) l ≡ slice_get v l
+  pub in_front : (v : List R) (n l : ℕ) → l < n → slice_get (take n v) l ≡ slice_get v l
   in_front [] zero l h = absurd (omega arith)
   in_front [] (suc n) l h = refl
   in_front (x ∷ v) zero l h = absurd (omega arith)

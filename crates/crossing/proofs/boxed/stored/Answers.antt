@@ -1,19 +1,11 @@
-use Rattle.std.proofs.Common.{◌≡◌, ℕ, ◌≤◌, nat_lt, Bool, true, false, cond, take, Result, refl, ap, ◌∙◌, subst, arith, rules, to_z, of_z, w32, w64}
-use Rattle.std.proofs.lemmas.Bool.{ltb-true}
+use Rattle.std.proofs.Common.{◌≡◌, take, refl, sym, ap, ◌∙◌, subst, arith, rules, to_z, of_z, w32, w64}
+use Rattle.std.proofs.lemmas.Bool.{cond_above}
 use Rattle.boxes.proofs.Reopened.{reopens}
-use Rattle.boxes.specs.Boxes.{Box, opened}
+use Rattle.boxes.specs.Boxes.{opened}
 use Rattle.boxes.specs.Stored.{box_of, lowers, uppers}
 use Rattle.fault.specs.Refusals.{refused}
 use Rattle.fault.specs.declared.fault.Cause.TheVariants.{Channels}
-use Rattle.fault.specs.declared.fault.Fault.{Fault}
 use Rattle.crossing.proofs.boxed.stored.Goals as goal
-
-few_channels : (n : ℕ) (r : Result Box Fault) → n ≤ 8 → cond (nat_lt 8 n) (refused Channels 0) r ≡ r
-few_channels n r few = go (nat_lt 8 n) refl
-  where
-    go : (t : Bool) → nat_lt 8 n ≡ t → cond t (refused Channels 0) r ≡ r
-    go true e = let more = ltb-true 8 n e in absurd (omega (arith, few, more))
-    go false e = refl
 
 pub returns : goal.returns
 returns c =
@@ -27,7 +19,7 @@ returns c =
     let wide : x ≡ c.from-2.result = search rules in
     let narrow : to_z w32 (of_z w32 b.centre) ≡ b.centre = search rules in
     let centre : x ≡ b.centre = wide ∙ c.from-2.ensures ∙ narrow in
-    few_channels n _ b.few
+    sym (cond_above 8 n (refused Channels 0) _ _ b.few refl)
     ∙ ap (λ ls. opened ls (take n c.loop-c.upper) b.swept x) low
     ∙ ap (λ us. opened (lowers (take n b.ranges)) us b.swept x) high
     ∙ ap (opened (lowers (take n b.ranges)) (uppers (take n b.ranges)) b.swept) centre
