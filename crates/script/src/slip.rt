@@ -2,7 +2,7 @@
 ghost use Rattle.std.specs.Prelude.{◌≡◌};
 ghost use Rattle.script.specs.Slips.{fault_of, no_memory};
 
-use std::alloc::AllocFailed;
+use std::alloc::{AllocError, AllocFailed};
 use std::fmt;
 
 #[derive(Clone, Copy, Debug, PartialEq, Eq)]
@@ -66,10 +66,18 @@ impl fmt::Display for Slip<'_> {
     }
 }
 
+impl From<AllocError> for Slip<'_> {
+    ghost from_gives = { λ _ slip. fault_of slip ≡ no_memory };
+
+    fn from(_error: AllocError) -> Self {
+        Problem::NoMemory.of("the line")
+    }
+}
+
 impl<T: Drop> From<AllocFailed<T>> for Slip<'_> {
     ghost from_gives = { λ _ slip. fault_of slip ≡ no_memory };
 
     fn from(_refused: AllocFailed<T>) -> Self {
-        Problem::NoMemory.of("the line")
+        AllocError.into()
     }
 }

@@ -1,10 +1,11 @@
 -- The marks of the sliding kind and their stored forms, both ways.
 use Rattle.std.specs.Prelude.{nat_le}
-use Rattle.std.proofs.Common.{◌≡◌, ℕ, zero, suc, ◌*◌, ◌^◌, ◌≤◌, Bool, true, false, ◌||◌, T, ℤ, pos, ◌*ℤ◌, nat_abs, Some, None, sym, refl, ap, ◌∙◌, arith, pow_pos, pow-suc, le→leb, lt_of_mul-lt-mul_right, le_of_mul-le-mul_right, w32, w64, SFits, to_z, of_z}
+use Rattle.std.proofs.Common.{◌≡◌, ℕ, zero, suc, ◌+◌, ◌-◌, ◌*◌, ◌^◌, ◌≤◌, Bool, true, false, ◌||◌, T, ℤ, pos, ◌*ℤ◌, nat_abs, Some, None, sym, refl, ap, ◌∙◌, subst, arith, mul-le-mul, pow_mono, pow_pos, pow-suc, le→leb, lt_of_mul-lt-mul_right, le_of_mul-le-mul_right, w32, w64, SFits, to_z, of_z}
 use borrow.Author.Differences.{ints}
 use lib.Signed.{shr_z}
-use Rattle.std.proofs.lemmas.Int.{to_z-of_z, unsigned_abs-mul}
+use Rattle.std.proofs.lemmas.Int.{by_lt_z, to_z-of_z, unsigned_abs-mul}
 use Rattle.std.specs.Int.{int_div_euclid}
+use Rattle.exact.proofs.Integers.{cancel}
 use Rattle.kind.proofs.Plain.{plain32}
 use Rattle.sliding.proofs.Scales.{plain_shr, scale_is, scale_short}
 use Rattle.sliding.specs.Cut.{Scale, cut, shifted}
@@ -12,7 +13,7 @@ use Rattle.sliding.specs.Form.{Normal, OnGrid}
 use Rattle.sliding.specs.Grid.{mark, mark_if, normal_on, normal_yes, normal?, stored_as}
 use Rattle.sliding.specs.Marks.{SlidingMarks}
 use Rattle.sliding.specs.Rules.{from_both, made}
-use Rattle.sliding.specs.Slides.{cut_shifted, on_shifted}
+use Rattle.sliding.specs.Slides.{cut_shifted, on_shifted, shifted_add}
 use Rattle.sliding.specs.declared.mark.Sliding.{Sliding}
 
 -- ---- the mark of a stored form
@@ -50,12 +51,39 @@ module _ (k : ℤ) (s : ℕ) (g : OnGrid k) (r : Scale k s) where
     λ h. le_of_mul-le-mul_right {m = 8388608} {n = nat_abs m} {k = 2 ^ s} (let e = size in let f = r.full h in omega arith) (pow_pos s),
   )
 
+-- ---- a stored form is the only one of its value
+-- of two forms of one value, the coarser has the same scale
+same_scale : (m n : ℤ) (s j : ℕ) → Normal m s → Normal n (s + j) → shifted m s ≡ shifted n (s + j) → j ≡ 0
+same_scale m n s zero p q e = refl
+same_scale m n s (suc j) p q e =
+    let f : m ≡ shifted n (suc j) = cancel m (shifted n (suc j)) (2 ^ s) (pow_pos s) (e ∙ ap (shifted n) (omega arith) ∙ shifted_add n (suc j) s) in
+    let g : nat_abs m ≡ nat_abs n * 2 ^ suc j = ap nat_abs f ∙ unsigned_abs-mul n (pos (2 ^ suc j)) in
+    let k = q.2 (omega arith) in
+    let w : 2 ^ 1 ≤ 2 ^ suc j = pow_mono {i = 1} {j = suc j} (omega arith) in
+    absurd (over (nat_abs m) (nat_abs n) (2 ^ suc j) g k w p.0)
+  where
+    over : (a b c : ℕ) → a ≡ b * c → 8388608 ≤ b → 2 ≤ c → a ≤ 16777215 → ⊥
+    over a b c e p q r = omega (arith, mul-le-mul p q)
+
+finer : (m n : ℤ) (s t : ℕ) → s ≤ t → Normal m s → Normal n t → shifted m s ≡ shifted n t → (m ≡ n) × (s ≡ t)
+finer m n s t h p q e =
+    let f : t ≡ s + (t - s) = omega arith in
+    let z = same_scale m n s (t - s) p (subst (Normal n) f q) (e ∙ ap (shifted n) f) in
+    let g : t ≡ s = omega arith in
+    (cancel m n (2 ^ s) (pow_pos s) (e ∙ ap (shifted n) g), sym g)
+
+once : (m n : ℤ) (s t : ℕ) → Normal m s → Normal n t → shifted m s ≡ shifted n t → (m ≡ n) × (s ≡ t)
+once m n s t p q e = by_lt_z (pos t) (pos s)
+    (λ h. let r = finer n m t s (omega (arith, ints)) q p (sym e) in (sym r.0, sym r.1))
+    (λ h. finer m n s t (omega (arith, ints)) p q e)
+
 pub sliding_marks : SlidingMarks
 sliding_marks = record {
   each = λ m s p q. (mark (shifted m s) (on_shifted m s p q), record { cross = refl });
   only = λ a.
       let r = scale_is a.units (nat_abs a.units) _ refl (let b = a.on_grid.0 in omega arith) refl in
       (_, _, stored_normal a.units _ a.on_grid r, record { cross = ap (λ (z : ℤ). z *ℤ pos 16777216) (sym (is_stored a.units _ a.on_grid r)) });
+  once = once;
 }
 
 -- what is stored as m and s is m × 2^s
