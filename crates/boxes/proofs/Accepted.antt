@@ -36,10 +36,10 @@ le_is e = le_z_yes (subst T (sym e) tt)
 counted_is : (n : ℤ) (place : ℕ) {m : ℤ} → counted n place ≡ Ok m → (n ≡ m) × (is_count n ≡ true)
 counted_is n place e = let p = ok_if (is_count n) (Ok n) _ e in (ok_is p.1, p.0)
 
-ordered_is : (l u : ℤ) (channel : ℕ) {p : ℤ × ℤ} → ordered l u channel ≡ Ok p → ((l, u) ≡ p) × (l ≤ℤ u)
+pub ordered_is : (l u : ℤ) (channel : ℕ) {p : ℤ × ℤ} → ordered l u channel ≡ Ok p → ((l, u) ≡ p) × (l ≤ℤ u)
 ordered_is l u channel e = let p = ok_if (le_z l u) (Ok (l, u)) _ e in (ok_is p.1, le_is p.0)
 
-inside_is : (l u x : ℤ) (channel : ℕ) {y : ℤ} → inside l u x channel ≡ Ok y → (x ≡ y) × (l ≤ℤ x) × (x ≤ℤ u)
+pub inside_is : (l u x : ℤ) (channel : ℕ) {y : ℤ} → inside l u x channel ≡ Ok y → (x ≡ y) × (l ≤ℤ x) × (x ≤ℤ u)
 inside_is l u x channel e =
     let p = ok_if (le_z l x && le_z x u) (Ok x) _ e in
     let q = both_true (le_z l x) (le_z x u) p.0 in

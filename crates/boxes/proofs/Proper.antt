@@ -10,7 +10,7 @@ use Rattle.fault.proofs.Steps.{found_ok, ok_is}
 use Rattle.boxes.proofs.Accepted.{centred_tells, ok_after, ok_unless, range_tells}
 use Rattle.boxes.proofs.Changes.{elsewhere, there, which}
 use Rattle.boxes.proofs.Moved.{Fits, judged_fits, judged_is}
-use Rattle.boxes.specs.Boxes.{Box, Centred, InOrder, Proper, blank_box, centred, opened, range, ranges}
+use Rattle.boxes.specs.Boxes.{Box, Centred, InOrder, Proper, asked, blank_box, centred, opened, range, ranges}
 use Rattle.boxes.specs.Moving.{changed, judged, moved}
 
 -- ---- a changed box
@@ -64,10 +64,6 @@ ranges_told n (x ∷ ls) (y ∷ us) e (suc c) l u el eu =
 either_false : (a b : Bool) → (a || b) ≡ false → (a ≡ false) × (b ≡ false)
 either_false true b e = cc
 either_false false b e = (refl, e)
-
--- the box of what open was given
-abbrev asked : List ℤ → List ℤ → ℕ → ℤ → Box
-asked lower upper swept x = record { lower = lower; upper = upper; swept = swept; centre = x }
 
 module _ (lower upper : List ℤ) (swept : ℕ) (centre : ℤ) {to : Box} where
   centre_told : (l u : ℤ) → after (centred l u centre swept) (λ x. Ok (asked lower upper swept x)) ≡ Ok to → (asked lower upper swept centre ≡ to) × ((l ≤ℤ centre) × (centre ≤ℤ u))

@@ -1,4 +1,4 @@
--- Open takes a proper box again.
+-- Open takes a proper box again, and of_ends each box with its ends in order.
 use Rattle.std.proofs.Common.{◌≡◌, ℕ, suc, Bool, true, false, T, List, [], ◌∷◌, ℤ, pos, neg_ℤ, ◌≤ℤ◌, Some, Ok, ◌&&◌, refl, ap, ◌∙◌, ap₂, arith}
 use lib.Signed.{le_z}
 use Rattle.std.proofs.lemmas.Option.{slice_get-get_or}
@@ -6,8 +6,8 @@ use Rattle.std.proofs.lemmas.Int.{ints}
 use Rattle.std.specs.List.{slice_get}
 use Rattle.fault.specs.Refusals.{after}
 use Rattle.boxes.proofs.Accepted.{both_true, le_is}
-use Rattle.boxes.proofs.Opened.{from_ends}
-use Rattle.boxes.specs.Boxes.{Box, InOrder, Proper, centred, is_count, opened, range, ranges}
+use Rattle.boxes.proofs.Opened.{from_ends, of_ends_is, opened_is}
+use Rattle.boxes.specs.Boxes.{Box, InOrder, Proper, Rising, asked, centred, inside, is_count, of_ends, opened, ordered, orders, range, ranges}
 
 holds : (b : Bool) → T b → b ≡ true
 holds true h = refl
@@ -40,5 +40,25 @@ reopens b p =
     let eu = slice_get-get_or b.upper b.swept (pos 0) (omega (arith, p.swept, p.same)) in
     let r = p.ranges b.swept _ _ el eu in
     let i = p.centre _ _ el eu in
-    from_ends b.lower b.upper b.swept b.centre (λ e. omega (arith, p.some, e)) p.few p.same (ranges_taken 0 b.lower b.upper p.ranges) el eu
-    ∙ ap (λ r. after r (λ x. Ok (record { lower = b.lower; upper = b.upper; swept = b.swept; centre = x }))) (centred_taken b.swept r i.0 i.1)
+    from_ends centred b.lower b.upper b.swept b.centre (opened_is b.lower b.upper b.swept b.centre (λ e. omega (arith, p.some, e)) p.few p.same) (ranges_taken 0 b.lower b.upper p.ranges) el eu
+    ∙ ap (λ r. after r (λ x. Ok (asked b.lower b.upper b.swept x))) (centred_taken b.swept r i.0 i.1)
+
+-- ---- ends that need not be counts
+ordered_taken : {l u : ℤ} (channel : ℕ) → l ≤ℤ u → ordered l u channel ≡ Ok (l, u)
+ordered_taken {l} {u} channel h = rw (holds (le_z l u) h.le)
+
+inside_taken : {l u x : ℤ} (channel : ℕ) → l ≤ℤ x → x ≤ℤ u → inside l u x channel ≡ Ok x
+inside_taken {l} {u} {x} channel h k = rw (holds (le_z l x) h.le, holds (le_z x u) k.le)
+
+orders_taken : (n : ℕ) (ls us : List ℤ) → ((c : ℕ) (l u : ℤ) → slice_get ls c ≡ Some l → slice_get us c ≡ Some u → l ≤ℤ u) → orders n ls us ≡ Ok tt
+orders_taken n [] us all = refl
+orders_taken n (l ∷ ls) [] all = refl
+orders_taken n (l ∷ ls) (u ∷ us) all = rw (ordered_taken n (all 0 l u refl refl)) (orders_taken (suc n) ls us (λ c. all (suc c)))
+
+pub takes : (b : Box) → Rising b → of_ends b.lower b.upper b.swept b.centre ≡ Ok b
+takes b p =
+    let el = slice_get-get_or b.lower b.swept (pos 0) p.swept in
+    let eu = slice_get-get_or b.upper b.swept (pos 0) (omega (arith, p.swept, p.same)) in
+    let i = p.centre _ _ el eu in
+    from_ends inside b.lower b.upper b.swept b.centre (of_ends_is b.lower b.upper b.swept b.centre (λ e. omega (arith, p.some, e)) p.few p.same) (orders_taken 0 b.lower b.upper p.ranges) el eu
+    ∙ ap (λ r. after r (λ x. Ok (asked b.lower b.upper b.swept x))) (inside_taken b.swept i.0 i.1)

@@ -1,5 +1,5 @@
-// Making a box from lists of counts.
-ghost use Rattle.std.specs.Prelude.{◌≡◌};
+// Making a box from lists of counts, or of other ends.
+ghost use Rattle.std.specs.Prelude.{◌≡◌, Ok};
 ghost use Rattle.std.specs.List.{slice_get};
 ghost use Rattle.fault.specs.Refusals.{found};
 ghost use Rattle.fault.specs.declared.fault.Cause.TheVariants.{NoChannel};
@@ -100,6 +100,35 @@ impl ChannelBox {
         }
         let swept_range = range_at(&ranges[..channels], swept, swept)?;
         let centre = centred(swept_range, centre, swept)?;
+        Ok(ChannelBox {
+            ranges,
+            channels,
+            swept,
+            centre,
+        })
+    }
+
+    // The box of ends that need not be counts, a swept channel and its centre, judged as `opened` judges, but for the size of the
+    // numbers. So none is refused that has 1 to 8 channels, the ends of each in order, and a centre inside the swept one.
+    pub fn of_ends(
+        lower: &[i32],
+        upper: &[i32],
+        swept: usize,
+        centre: i32,
+    ) -> Result<ChannelBox, Fault>
+        ensures value { boxed result ≡ boxes.of_ends lower.now upper.now swept centre }
+        ensures taken { let b = boxes.asked lower.now upper.now swept centre in boxes.Rising b → boxed result ≡ Ok b }
+    {
+        let channels = lower.len();
+        if channels == 0 || channels > 8 || channels != upper.len() {
+            return Err(Cause::Channels.at(0));
+        }
+        let mut ranges = [Range { lower: 0, upper: 0 }; 8];
+        for c in 0..channels {
+            ranges[c] = ordered(lower[c], upper[c], c)?;
+        }
+        let swept_range = range_at(&ranges[..channels], swept, swept)?;
+        let centre = inside(swept_range, centre, swept)?;
         Ok(ChannelBox {
             ranges,
             channels,

@@ -1,7 +1,9 @@
 use Rattle.std.proofs.Common.{ℕ, List, get_or, length, ℤ, pos, sym, ap, ◌∙◌, arith, w32, w64, to_z, of_z, rules}
 use Rattle.boxes.specs.Stored.{ranged}
+use Rattle.boxes.specs.Boxes.{centred}
+use Rattle.boxes.proofs.Accepted.{centred_tells}
 use Rattle.boxes.proofs.Judged.{all_high, all_low, judged_all, judged_on, judged_out}
-use Rattle.boxes.proofs.Opened.{bad_centre, bad_channel, centre_inside, exit, not_swept, opens, swept_inside}
+use Rattle.boxes.proofs.Opened.{bad_centre, bad_channel, centre_inside, exit, not_swept, opened_is, opens, swept_inside}
 use Rattle.boxes.proofs.channels.ChannelBox.opened.Goals as goal
 
 -- an end of channel c as the code has it
@@ -10,7 +12,7 @@ read xs c = to_z w64 (of_z w64 (get_or xs c (pos 0)))
 
 pub returns-in_err-ranges : goal.returns-in_err-ranges
 returns-in_err-ranges c = exit _ c.from_residual.ensures.1
-    (bad_channel c.args.lower.now c.args.upper.now c.args.swept c.args.centre c.if-channels-eq0.false c.if-channels-gt8.false c.if-channels-upper.false
+    (bad_channel centred c.args.lower.now c.args.upper.now c.args.swept c.args.centre (opened_is _ _ _ c.args.centre c.if-channels-eq0.false c.if-channels-gt8.false c.if-channels-upper.false)
     (judged_out c.loop-c.invariant c.loop-c-test.true (omega (arith, c.loop-c-test.true, c.if-channels-upper.false))
     {x = read c.args.lower.now c.loop-c.c} {y = read c.args.upper.now c.loop-c.c} (search rules) (search rules) (sym (ap ranged c.in_err-ranges.was) ∙ c.range.ensures)))
 
@@ -21,13 +23,13 @@ loop-c-preserved c = judged_on c.loop-c.invariant c.loop-c-test.true (omega (ari
 
 pub returns-in_err-swept_range : goal.returns-in_err-swept_range
 returns-in_err-swept_range c = exit _ c.from_residual-in_err-swept_range.ensures.1
-    (not_swept c.args.lower.now c.args.upper.now c.args.swept c.args.centre c.if-channels-eq0.false c.if-channels-gt8.false c.if-channels-upper.false
+    (not_swept centred c.args.lower.now c.args.upper.now c.args.swept c.args.centre (opened_is _ _ _ c.args.centre c.if-channels-eq0.false c.if-channels-gt8.false c.if-channels-upper.false)
     (judged_all c.loop-c.invariant (search rules)) _ (all_low c.loop-c.invariant (search rules)) (all_high c.loop-c.invariant (search rules) c.if-channels-upper.false)
     (sym c.in_err-swept_range.was ∙ c.range_at.ensures))
 
 pub returns-in_err-centre : goal.returns-in_err-centre
 returns-in_err-centre c = exit _ c.from_residual-in_err-centre.ensures.1
-    (bad_centre c.args.lower.now c.args.upper.now c.args.swept c.args.centre c.if-channels-eq0.false c.if-channels-gt8.false c.if-channels-upper.false
+    (bad_centre centred c.args.lower.now c.args.upper.now c.args.swept c.args.centre (opened_is _ _ _ c.args.centre c.if-channels-eq0.false c.if-channels-gt8.false c.if-channels-upper.false)
     (judged_all c.loop-c.invariant (search rules)) _ (all_low c.loop-c.invariant (search rules)) (all_high c.loop-c.invariant (search rules) c.if-channels-upper.false)
     (sym c.in_ok-swept_range.was ∙ c.range_at.ensures) {x = to_z w64 (of_z w64 c.args.centre)} (search rules) (sym c.in_err-centre.was ∙ c.centred.ensures))
 
@@ -37,11 +39,11 @@ invariant_of-result c = record {
   few = c.if-channels-gt8.false;
   inside = swept_inside c.loop-c.ranges (length c.args.lower.now) c.args.swept (sym c.in_ok-swept_range.was ∙ c.range_at.ensures);
   centred = λ r e. centre_inside c.loop-c.ranges (length c.args.lower.now) c.args.swept (sym c.in_ok-swept_range.was ∙ c.range_at.ensures) e (to_z w64 (of_z w64 c.args.centre))
-      {y = c.in_ok-centre.centre} {y' = to_z w32 (of_z w32 c.in_ok-centre.centre)} (search rules) (sym c.in_ok-centre.was ∙ c.centred.ensures);
+      {y = c.in_ok-centre.centre} {y' = to_z w32 (of_z w32 c.in_ok-centre.centre)} (search rules) (centred_tells c.in_ok-swept_range.swept_range.lower c.in_ok-swept_range.swept_range.upper (to_z w64 (of_z w64 c.args.centre)) c.args.swept (sym c.centred.ensures ∙ c.in_ok-centre.was));
 }
 
 pub returns : goal.returns
-returns c = opens c.args.lower.now c.args.upper.now c.args.swept c.args.centre c.if-channels-eq0.false c.if-channels-gt8.false c.if-channels-upper.false
+returns c = opens centred c.args.lower.now c.args.upper.now c.args.swept c.args.centre (opened_is _ _ _ c.args.centre c.if-channels-eq0.false c.if-channels-gt8.false c.if-channels-upper.false)
     (judged_all c.loop-c.invariant (search rules)) _ (all_low c.loop-c.invariant (search rules)) (all_high c.loop-c.invariant (search rules) c.if-channels-upper.false)
     (sym c.in_ok-swept_range.was ∙ c.range_at.ensures) {x = to_z w64 (of_z w64 c.args.centre)} (search rules)
     {y = c.in_ok-centre.centre} {y' = to_z w32 (of_z w32 c.in_ok-centre.centre)} (search rules) (sym c.in_ok-centre.was ∙ c.centred.ensures)
