@@ -4,6 +4,7 @@ ghost use Rattle.desk.specs.Answers.{AnswersAt, AnswersIn, Begins};
 ghost use Rattle.desk.specs.Begun.{BeginsAs};
 ghost use Rattle.desk.specs.Dialogue.{DialoguesSound};
 ghost use Rattle.desk.specs.Windows.{Stays, window_of};
+ghost use Rattle.script.specs.declared.call.KindName.TheVariants as kinds;
 
 use crate::desk::Desk;
 use fixed::Fixed;
@@ -19,23 +20,53 @@ pub enum Station {
     Sliding(Desk<Sliding>),
 }
 
+// A station of each kind is made in a function of its own: what one needs on the stack is not set up for the other.
+#[inline(never)]
+fn fixed() -> Station
+    ensures { BeginsAs kinds.Fixed result }
+{
+    Station::Fixed(Desk::blank())
+}
+
+#[inline(never)]
+fn sliding() -> Station
+    ensures { BeginsAs kinds.Sliding result }
+{
+    Station::Sliding(Desk::blank())
+}
+
 impl Station {
     // A blank sheet of a kind.
     pub fn blank(kind: KindName) -> Station
         ensures { BeginsAs kind result }
     {
         match kind {
-            KindName::Fixed => Station::Fixed(Desk::blank()),
-            KindName::Sliding => Station::Sliding(Desk::blank()),
+            KindName::Fixed => fixed(),
+            KindName::Sliding => sliding(),
         }
     }
 
-    // Begins anew where the call names a kind.
+    // A desk of the other kind takes the place of this one.
+    #[inline(never)]
+    fn turn(&mut self, kind: KindName)
+        ensures { BeginsAs kind self.new }
+    {
+        match kind {
+            KindName::Fixed => *self = fixed(),
+            KindName::Sliding => *self = sliding(),
+        }
+    }
+
+    // Begins anew where the call names a kind: a desk of that kind begins where it stands.
     fn begin(&mut self, call: &Call)
         ensures { Begins call.now self.old self.new }
     {
         if let Call::Kind(kind) = call {
-            *self = Station::blank(*kind);
+            match (&mut *self, kind) {
+                (Station::Fixed(desk), KindName::Fixed) => desk.begin(),
+                (Station::Sliding(desk), KindName::Sliding) => desk.begin(),
+                _ => self.turn(*kind),
+            }
         }
     }
 

@@ -15,12 +15,17 @@ fn step(rt: &HostRuntime, station: &mut Station, line: u64, text: &str) -> Resul
     Ok(())
 }
 
-// Makes the call of each line.
-pub fn steps<R: BufRead + Drop>(rt: &HostRuntime, script: R) -> Result<(), Stop> {
+// Makes the call of each line. All lines share the memory that one is held in. (Its line break is white space to its words.)
+pub fn steps<R: BufRead + Drop>(rt: &HostRuntime, mut script: R) -> Result<(), Stop> {
     let heap = rt.alloc();
     let mut station = Station::blank(KindName::Fixed);
-    for (line, text) in (1u64..).zip(script.lines(heap)) {
-        let text = text.map_err(|error| unread(heap, Place::Line(line), error))?;
+    let mut text = String::new(heap);
+    for line in 1..u64::MAX {
+        text.clear();
+        let read = script.read_line(&mut text);
+        if read.map_err(|error| unread(heap, Place::Line(line), error))? == 0 {
+            break;
+        }
         step(rt, &mut station, line, text.as_str())?;
     }
     Ok(())

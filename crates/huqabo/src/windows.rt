@@ -8,12 +8,21 @@ use std::io::{BufRead, BufReader};
 use std::{fmt, fs};
 use window::Refused;
 
-// The formula of a file with bytes in hexadecimal. Lines that begin with # are passed over.
-pub fn formula_of<R: BufRead + Drop>(heap: Global, name: &str, file: R) -> Result<Vec<u8>, Stop> {
+// The formula of a file with bytes in hexadecimal. Lines that begin with # are passed over. All share the memory that one is held in.
+pub fn formula_of<R: BufRead + Drop>(
+    heap: Global,
+    name: &str,
+    mut file: R,
+) -> Result<Vec<u8>, Stop> {
     let mut bytes = Vec::new(heap);
-    for (line, text) in (1u64..).zip(file.lines(heap)) {
+    let mut text = String::new(heap);
+    for line in 1..u64::MAX {
         let place = Place::Formula(line, name);
-        let text = text.map_err(|error| unread(heap, place, error))?;
+        text.clear();
+        let read = file.read_line(&mut text);
+        if read.map_err(|error| unread(heap, place, error))? == 0 {
+            break;
+        }
         if !text.as_str().starts_with("#") {
             append_bytes(&mut bytes, text.as_str()).map_err(|slip| slipped(heap, place, slip))?;
         }

@@ -8,19 +8,34 @@ use sheet::Sheet;
 use slope::Record;
 use span::Span;
 
+// A memory: every line has U = U0 = [0] and no slopes.
+fn memory<K: Units>() -> [Record<K>; 128] {
+    let nought = Span::point(K::zero());
+    [Record::flat(nought, nought); 128]
+}
+
 impl<K: Units> Desk<K> {
-    // A blank sheet; every line of the memory has U = U0 = [0] and no slopes.
+    // A blank sheet and blank memories.
     pub fn blank() -> Desk<K>
         ensures { Begins result.sheet result.lent result.lent_spare }
     {
-        let nought = Span::point(K::zero());
-        let flat = Record::flat(nought, nought);
         Desk {
             sheet: Sheet::blank(),
-            working: [flat; 128],
-            spare: [flat; 128],
+            working: memory(),
+            spare: memory(),
             lent: 64,
             lent_spare: 64,
         }
+    }
+
+    // The same where the desk stands: nothing of its size is moved.
+    pub fn begin(&mut self)
+        ensures { Begins self.new.sheet self.new.lent self.new.lent_spare }
+    {
+        self.sheet = Sheet::blank();
+        self.working = memory();
+        self.spare = memory();
+        self.lent = 64;
+        self.lent_spare = 64;
     }
 }
