@@ -4,7 +4,8 @@ use Rattle.std.proofs.lemmas.List.{drop_all, drop_more, map_push, take_more, tak
 use Rattle.fault.specs.Refusals.{after}
 use Rattle.fault.specs.declared.fault.Fault.{Fault}
 use Rattle.boxes.proofs.Accepted.{ordered_is, range_tells}
-use Rattle.boxes.specs.Boxes.{ordered, orders, range, ranges}
+use Rattle.boxes.specs.Boxes.{ordered, range, ranges}
+use Rattle.boxes.specs.Rising.{orders}
 use Rattle.boxes.specs.Stored.{lowers, ranged, uppers}
 use Rattle.boxes.specs.declared.range.Range.{Range}
 

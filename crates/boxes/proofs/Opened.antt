@@ -10,7 +10,8 @@ use Rattle.std.specs.List.{slice_get}
 use Rattle.fault.specs.Refusals.{after, found}
 use Rattle.fault.specs.declared.fault.Cause.TheVariants.{NoChannel}
 use Rattle.fault.specs.declared.fault.Fault.{Fault}
-use Rattle.boxes.specs.Boxes.{Box, asked, centred, inside, of_ends, opened, orders, ranges}
+use Rattle.boxes.specs.Boxes.{Box, centred, inside, opened, ranges}
+use Rattle.boxes.specs.Rising.{asked, of_ends, orders}
 use Rattle.boxes.specs.Stored.{boxed, lowers, uppers}
 use Rattle.boxes.specs.declared.channels.ChannelBox.{ChannelBox}
 use Rattle.boxes.specs.declared.range.Range.{Range}

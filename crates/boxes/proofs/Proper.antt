@@ -10,7 +10,8 @@ use Rattle.fault.proofs.Steps.{found_ok, ok_is}
 use Rattle.boxes.proofs.Accepted.{centred_tells, ok_after, ok_unless, range_tells}
 use Rattle.boxes.proofs.Changes.{elsewhere, there, which}
 use Rattle.boxes.proofs.Moved.{Fits, judged_fits, judged_is}
-use Rattle.boxes.specs.Boxes.{Box, Centred, InOrder, Proper, asked, blank_box, centred, opened, range, ranges}
+use Rattle.boxes.specs.Boxes.{Box, Centred, InOrder, Proper, blank_box, centred, opened, range, ranges}
+use Rattle.boxes.specs.Rising.{asked}
 use Rattle.boxes.specs.Moving.{changed, judged, moved}
 
 -- ---- a changed box

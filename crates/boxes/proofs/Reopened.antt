@@ -7,7 +7,8 @@ use Rattle.std.specs.List.{slice_get}
 use Rattle.fault.specs.Refusals.{after}
 use Rattle.boxes.proofs.Accepted.{both_true, le_is}
 use Rattle.boxes.proofs.Opened.{from_ends, of_ends_is, opened_is}
-use Rattle.boxes.specs.Boxes.{Box, InOrder, Proper, Rising, asked, centred, inside, is_count, of_ends, opened, ordered, orders, range, ranges}
+use Rattle.boxes.specs.Boxes.{Box, InOrder, Proper, centred, inside, is_count, opened, ordered, range, ranges}
+use Rattle.boxes.specs.Rising.{Rising, asked, of_ends, orders}
 
 holds : (b : Bool) → T b → b ≡ true
 holds true h = refl

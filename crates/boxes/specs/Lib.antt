@@ -1,3 +1,4 @@
 pub mod Boxes
 pub mod Moving
+pub mod Rising
 pub mod Stored

@@ -4,6 +4,8 @@ ghost use Rattle.std.specs.List.{slice_get};
 ghost use Rattle.fault.specs.Refusals.{found};
 ghost use Rattle.fault.specs.declared.fault.Cause.TheVariants.{NoChannel};
 ghost use Rattle.boxes.specs.Boxes as boxes;
+ghost use Rattle.boxes.specs.Rising.{Rising, asked};
+ghost use Rattle.boxes.specs.Rising as rising;
 ghost use Rattle.boxes.specs.Stored.{box_of, boxed, ranged};
 
 use crate::channels::ChannelBox;
@@ -116,8 +118,8 @@ impl ChannelBox {
         swept: usize,
         centre: i32,
     ) -> Result<ChannelBox, Fault>
-        ensures value { boxed result ≡ boxes.of_ends lower.now upper.now swept centre }
-        ensures taken { let b = boxes.asked lower.now upper.now swept centre in boxes.Rising b → boxed result ≡ Ok b }
+        ensures value { boxed result ≡ rising.of_ends lower.now upper.now swept centre }
+        ensures taken { let b = asked lower.now upper.now swept centre in Rising b → boxed result ≡ Ok b }
     {
         let channels = lower.len();
         if channels == 0 || channels > 8 || channels != upper.len() {
