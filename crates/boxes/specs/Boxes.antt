@@ -42,7 +42,7 @@ pub record Proper (b : Box) : Type 0 where
 abbrev pub counted : ℤ → ℕ → Result ℤ Fault
 counted n place = cond (is_count n) (Ok n) (refused Number place)
 
--- two counts as a range
+-- two numbers as a range
 abbrev pub ordered : ℤ → ℤ → ℕ → Result (ℤ × ℤ) Fault
 ordered l u channel = cond (int_le l u) (Ok (l, u)) (refused Order channel)
 
@@ -56,7 +56,7 @@ ranges channel [] us = Ok tt
 ranges channel (l ∷ ls) [] = Ok tt
 ranges channel (l ∷ ls) (u ∷ us) = after (range l u channel) (λ _. ranges (suc channel) ls us)
 
--- a count as the centre of a range
+-- a number as the centre of a range
 abbrev pub inside : ℤ → ℤ → ℤ → ℕ → Result ℤ Fault
 inside l u x channel = cond (int_le l x && int_le x u) (Ok x) (refused Centre channel)
 

@@ -22,7 +22,7 @@ pub fn count(n: i64, place: usize) -> Result<i32, Fault>
     Ok(n as i32)
 }
 
-// Two counts as a range.
+// Two numbers as a range.
 pub(crate) fn ordered(lower: i32, upper: i32, channel: usize) -> Result<Range, Fault>
     ensures { ranged result ≡ boxes.ordered lower upper channel }
 {
@@ -41,7 +41,7 @@ pub(crate) fn range(lower: i64, upper: i64, channel: usize) -> Result<Range, Fau
     ordered(l, u, channel)
 }
 
-// A count as the centre of a range.
+// A number as the centre of a range.
 pub(crate) fn inside(range: Range, centre: i32, channel: usize) -> Result<i32, Fault>
     ensures { result ≡ boxes.inside range.lower range.upper centre channel }
 {
