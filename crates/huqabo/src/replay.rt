@@ -1,5 +1,5 @@
 // Answering a script of calls.
-use crate::stop::{Place, Stop, slipped, unopened, unread};
+use crate::stop::{Place, Stop, slipped, text_of, unopened, unread};
 use desk::Station;
 use script::{KindName, call_of};
 use std::fs;
@@ -15,18 +15,20 @@ fn step(rt: &HostRuntime, station: &mut Station, line: u64, text: &str) -> Resul
     Ok(())
 }
 
-// Makes the call of each line. All lines share the memory that one is held in. (Its line break is white space to its words.)
+// Makes the call of each line. All lines share the memory that one is held in.
 pub fn steps<R: BufRead + Drop>(rt: &HostRuntime, mut script: R) -> Result<(), Stop> {
     let heap = rt.alloc();
     let mut station = Station::blank(KindName::Fixed);
-    let mut text = String::new(heap);
+    let mut bytes = Vec::new(heap);
     for line in 1..u64::MAX {
-        text.clear();
-        let read = script.read_line(&mut text);
-        if read.map_err(|error| unread(heap, Place::Line(line), error))? == 0 {
+        let place = Place::Line(line);
+        bytes.clear();
+        let read = script.read_until(b'\n', &mut bytes);
+        if read.map_err(|error| unread(heap, place, error))? == 0 {
             break;
         }
-        step(rt, &mut station, line, text.as_str())?;
+        let text = text_of(heap, place, bytes.as_slice())?;
+        step(rt, &mut station, line, text)?;
     }
     Ok(())
 }

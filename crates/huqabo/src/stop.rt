@@ -2,7 +2,7 @@
 use script::Slip;
 use std::alloc::{AllocError, Global};
 use std::io::ErrorKind;
-use std::{fmt, io};
+use std::{fmt, io, str};
 
 pub const USAGE: &str = "\
 huqabo replay [FILE]            answers calls, one a line, from FILE or standard input
@@ -72,13 +72,22 @@ pub fn slipped(heap: Global, place: Place<'_>, slip: Slip<'_>) -> Stop {
     input(format!(in heap; "{place}: {slip}"))
 }
 
+// A line is no text.
+fn misread(heap: Global, place: Place<'_>) -> Stop {
+    input(format!(in heap; "{place}: the input cannot be read as text"))
+}
+
+// The text of a line, without its line break.
+pub fn text_of<'a>(heap: Global, place: Place<'_>, line: &'a [u8]) -> Result<&'a str, Stop> {
+    let line = line.strip_suffix(b"\n").unwrap_or(line);
+    str::from_utf8(line).map_err(|_| misread(heap, place))
+}
+
 // A line cannot be read.
 pub fn unread(heap: Global, place: Place<'_>, error: io::Error) -> Stop {
     match error.kind() {
         ErrorKind::OutOfMemory => Stop::Memory,
-        ErrorKind::InvalidData => input(format!(in heap;
-            "{place}: the input cannot be read as text"
-        )),
+        ErrorKind::InvalidData => misread(heap, place),
         _ => input(format!(in heap; "{place}: the input cannot be read: {error}")),
     }
 }

@@ -1,5 +1,5 @@
 // The windows of a station: the last line of a formula is reported for each.
-use crate::stop::{Place, Stop, misused, slipped, unopened, unread};
+use crate::stop::{Place, Stop, misused, slipped, text_of, unopened, unread};
 use desk::Station;
 use report::Report;
 use script::{KindName, Problem, append_bytes, counts_of};
@@ -15,16 +15,17 @@ pub fn formula_of<R: BufRead + Drop>(
     mut file: R,
 ) -> Result<Vec<u8>, Stop> {
     let mut bytes = Vec::new(heap);
-    let mut text = String::new(heap);
+    let mut line_bytes = Vec::new(heap);
     for line in 1..u64::MAX {
         let place = Place::Formula(line, name);
-        text.clear();
-        let read = file.read_line(&mut text);
+        line_bytes.clear();
+        let read = file.read_until(b'\n', &mut line_bytes);
         if read.map_err(|error| unread(heap, place, error))? == 0 {
             break;
         }
-        if !text.as_str().starts_with("#") {
-            append_bytes(&mut bytes, text.as_str()).map_err(|slip| slipped(heap, place, slip))?;
+        let text = text_of(heap, place, line_bytes.as_slice())?;
+        if !text.starts_with("#") {
+            append_bytes(&mut bytes, text).map_err(|slip| slipped(heap, place, slip))?;
         }
     }
     Ok(bytes)
