@@ -1,4 +1,7 @@
 // Why the program ends early, in words.
+ghost use Rattle.std.specs.Prelude.{◌≡◌, MatchResult};
+ghost use Rattle.std.specs.Str.{IsUtf8};
+
 use script::Slip;
 use std::alloc::{AllocError, Global};
 use std::io::ErrorKind;
@@ -77,9 +80,10 @@ fn misread(heap: Global, place: Place<'_>) -> Stop {
     input(format!(in heap; "{place}: the input cannot be read as text"))
 }
 
-// The text of a line, without its line break.
-pub fn text_of<'a>(heap: Global, place: Place<'_>, line: &'a [u8]) -> Result<&'a str, Stop> {
-    let line = line.strip_suffix(b"\n").unwrap_or(line);
+// The text of a line. (Its line break is white space to its words.)
+pub fn text_of<'a>(heap: Global, place: Place<'_>, line: &'a [u8]) -> Result<&'a str, Stop>
+    ensures { MatchResult result (λ text. text.now ≡ line.now) (λ _. IsUtf8 line.now → ⊥) }
+{
     str::from_utf8(line).map_err(|_| misread(heap, place))
 }
 
